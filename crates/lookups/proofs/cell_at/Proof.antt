@@ -1,0 +1,19 @@
+-- `lookups::cell_at` meets its contract: the two guards, and the read. Assumes nothing.
+use borrow.Author.Needs.{needs}
+use borrow.Author.Tests.{lt-ltb, le-ltb}
+use Rattle.tables.specs.Look.{cell}
+use Rattle.lookups.proofs.cell_at.Statement.{statement}
+use Rattle.lookups.proofs.cell_at.Tie as tie
+
+pub cell-at-spec : {M : Type 1} → statement M
+unfolding cell
+cell-at-spec =
+    tie.close
+    (tie.spec
+    (λ c. rw (le-ltb _ _ (c .if1 .taken)))
+    (λ c. rw (lt-ltb _ _ (c .before .if1 .left), le-ltb _ _ (c .if2 .taken)))
+    (λ c. search needs)
+    (λ c. search needs)
+    (λ c. search needs)
+    (λ c. search needs)
+    (λ c. rw (lt-ltb _ _ (c .before .before .if1 .left), lt-ltb _ _ (c .before .if2 .left))))

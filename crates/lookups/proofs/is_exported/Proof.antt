@@ -1,0 +1,12 @@
+-- `lookups::is_exported` meets its contract: a search that found. Assumes nothing.
+use Rattle.tables.specs.Look.{exported}
+use Rattle.lookups.proofs.is_exported.Statement.{statement}
+use Rattle.lookups.proofs.is_exported.Tie as tie
+
+pub is-exported-spec : {M : Type 1} → statement M
+unfolding exported
+is-exported-spec =
+    tie.close
+    (tie.spec
+    (λ c κs. tt)
+    (λ c. rw (c .entry-of .ensures)))

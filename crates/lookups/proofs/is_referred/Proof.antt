@@ -1,0 +1,12 @@
+-- `lookups::is_referred` meets its contract: a search that found. Assumes nothing.
+use Rattle.tables.specs.Look.{referred}
+use Rattle.lookups.proofs.is_referred.Statement.{statement}
+use Rattle.lookups.proofs.is_referred.Tie as tie
+
+pub is-referred-spec : {M : Type 1} → statement M
+unfolding referred
+is-referred-spec =
+    tie.close
+    (tie.spec
+    (λ c κs. tt)
+    (λ c. rw (c .ref-naming .ensures)))

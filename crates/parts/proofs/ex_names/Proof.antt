@@ -1,0 +1,20 @@
+-- `parts::ex_names` meets its contract, by cases; one arm reads the two fields of the EX. Assumes nothing.
+use borrow.Author.Needs.{needs}
+use Rattle.parts.proofs.ex_names.Statement.{statement}
+use Rattle.parts.proofs.ex_names.Tie as tie
+
+pub ex-names-spec : {M : Type 1} → statement M
+ex-names-spec =
+    tie.close
+    (tie.spec
+    (λ c. search needs)
+    (λ c. search needs)
+    (λ c. search needs)
+    (λ c. search needs)
+    (λ c. search needs)
+    (λ c κs. search needs)
+    (λ c. search needs)
+    (λ c. search needs)
+    (λ c. search needs)
+    (λ c. search needs)
+    (λ c. rw (c .both .ensures, c .before .before .k .given .1)))

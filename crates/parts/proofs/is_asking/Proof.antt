@@ -1,0 +1,19 @@
+-- `parts::is_asking` meets its contract, by cases; one arm reads the field of the EX. Assumes nothing.
+use borrow.Author.Needs.{needs}
+use Rattle.parts.proofs.is_asking.Statement.{statement}
+use Rattle.parts.proofs.is_asking.Tie as tie
+
+pub is-asking-spec : {M : Type 1} → statement M
+is-asking-spec =
+    tie.close
+    (tie.spec
+    (λ c. search needs)
+    (λ c. search needs)
+    (λ c. search needs)
+    (λ c. search needs)
+    (λ c. search needs)
+    (λ c. search needs)
+    (λ c. search needs)
+    (λ c. search needs)
+    (λ c. search needs)
+    (λ c. rw (c .before .k .given .1)))

@@ -1,0 +1,20 @@
+-- The numbered cases, the printed run and the wrong turnings, computed of the rules themselves, the soundness test of every call run with
+-- them. Assumes nothing.
+use mathlib.Core.Path.{_≡_, refl}
+use mathlib.Core.Bool.{true}
+use mathlib.Core.List.{[], _∷_}
+use Rattle.rules.specs.Cases.{hold, numberedCases, wrongTurnings, wholeRun}
+
+-- K1 to K10, the whole table
+pub numbered-cases : hold numberedCases ≡ true
+unfolding hold
+numbered-cases = refl
+
+-- the run printed in document 01, frame by frame
+pub whole-run : hold (wholeRun ∷ []) ≡ true
+unfolding hold
+whole-run = refl
+
+pub wrong-turnings : hold wrongTurnings ≡ true
+unfolding hold
+wrong-turnings = refl

@@ -1,0 +1,251 @@
+-- Document 01's numbered cases K1 to K10 as one table, and the whole run printed in its "text program", as calls with their codes and
+-- values. A case begins from a state, and each row is a call with its answer or a look at what then stands in the tables. Assumes nothing.
+use Prim.Native.Nat.{ℕ}
+use mathlib.Core.Bool.{Bool, true, false, _&&_}
+use mathlib.Core.List.{List, [], _∷_, _++_}
+use lib.Dec.{eqb}
+use lib.ListN.{replicate}
+use Rattle.numbers.specs.Below.{allBelow, sumBelow, lowestFrom, walkMeets}
+use Rattle.numbers.specs.Lists.{eachFrom, total}
+use Rattle.tables.specs.declared.Status.the-variants.{Idle}
+use Rattle.tables.specs.declared.Kind.the-variants.{Free, Var, Ex}
+use Rattle.tables.specs.declared.Holding.the-variants.{Unused, Live}
+use Rattle.tables.specs.declared.Message.{Message}
+use Rattle.tables.specs.declared.Message.the-variants.{Empty, Reference, Release, Read, Answer, Ask, Supply}
+use Rattle.tables.specs.declared.Call.{Call}
+use Rattle.tables.specs.declared.Call.the-variants.{Start, New, Set, Bind, Export, Indirect, Transfer, Drop, ReadCell, AskWeight, Deliver}
+use Rattle.tables.specs.declared.Outcome.{Outcome}
+use Rattle.tables.specs.Machine.{Tables, eight}
+use Rattle.tables.specs.Parts.{exWeight, entryWeight}
+use Rattle.tables.specs.Look.{cell, entry, end, endKind, safe, entryOf, exported, referred, busy, lowestFreeCell, lowestFreeEntry, lowestEmptySlot, exNaming, freeCells, booked, liveEntries, message, putCell, putEntry, putMessage}
+use Rattle.rules.specs.Answers.{codeOf, valueOf, checked}
+use Rattle.rules.specs.Sound.{exesNaming, entriesNaming, readsOf, asksOf, follow, reached, held, point1, point2, point3, point4, point5, point6, sound}
+use Rattle.rules.specs.Refusals.{entryToUse, ready}
+use Rattle.rules.specs.Calls.{allFree, closed, start, new, set, bind, byLocation, byReference, export, indirect, transfer, drop, read, ask, B, bound}
+use Rattle.rules.specs.Deliver.{arrives, deliverHome, deliverAway, deliverRelease, deliverRead, deliverAnswer, deliverSupply, deliverAsk, deliverMessage, deliver}
+use Rattle.rules.specs.Step.{step}
+
+-- the weight that a message carries
+abbrev pub messageWeight : Message → ℕ
+messageWeight Empty = 0
+messageWeight (Reference to o e n) = n
+messageWeight (Release o e n) = n
+messageWeight (Read r c o e) = 0
+messageWeight (Answer r c n) = 0
+messageWeight (Ask a c o e) = 0
+messageWeight (Supply a c n) = n
+
+abbrev pub isSupply : Message → Bool
+isSupply Empty = false
+isSupply (Reference to o e n) = false
+isSupply (Release o e n) = false
+isSupply (Read r c o e) = false
+isSupply (Answer r c n) = false
+isSupply (Ask a c o e) = false
+isSupply (Supply a c n) = true
+
+pub data Row : Type 0 where
+  -- a call, its code and its value
+  gives : Call → ℕ → ℕ → Row
+  -- the weight of the EX of a worker's cell, of a message in a slot, of a Supply, of an entry (0: it is free)
+  cellWeighs : ℕ → ℕ → ℕ → Row
+  slotWeighs : ℕ → ℕ → Row
+  supplyWeighs : ℕ → ℕ → Row
+  entryWeighs : ℕ → ℕ → ℕ → Row
+
+-- the answer has this code and value
+abbrev pub answers : Outcome → ℕ → ℕ → Bool
+answers o code value = eqb (codeOf o) code && eqb (valueOf o) value
+
+pub data Case : Type 0 where
+  case : Tables → List Row → Case
+
+-- ---- K1 to K10
+
+-- "K1 start 0: 1. K2 start 8: done. K3 start 9: 1."
+abbrev pub k1 : Case
+k1 = case (closed eight) (gives (Start 0) 1 0 ∷ [])
+
+abbrev pub k2 : Case
+k2 = case (closed eight) (gives (Start 8) 0 0 ∷ [])
+
+abbrev pub k3 : Case
+k3 = case (closed eight) (gives (Start 9) 1 0 ∷ [])
+
+-- "K4 an EX of weight 1,024 with room throughout: ten exports succeed and leave weight 1; the eleventh: 9."
+-- "K5 weight 3 exported: 1 sent, 2 kept." Of the ten, those of weight 2 and 1 are delivered, and join: 3.
+abbrev pub k4-k5 : Case
+k4-k5 =
+    case (allFree eight 3)
+    (gives (New 0) 0 0
+    ∷ gives (Export 0 0 1) 0 0
+    ∷ gives (Deliver 0) 0 0
+    ∷ cellWeighs 1 0 1024
+    ∷ gives (Export 1 0 2) 0 0
+    ∷ gives (Export 1 0 2) 0 1
+    ∷ gives (Export 1 0 2) 0 2
+    ∷ gives (Export 1 0 2) 0 3
+    ∷ gives (Export 1 0 2) 0 4
+    ∷ gives (Export 1 0 2) 0 5
+    ∷ gives (Export 1 0 2) 0 6
+    ∷ gives (Export 1 0 2) 0 7
+    ∷ gives (Export 1 0 2) 0 8
+    ∷ gives (Export 1 0 2) 0 9
+    ∷ cellWeighs 1 0 1
+    ∷ gives (Export 1 0 2) 9 0
+    ∷ gives (Deliver 8) 0 0
+    ∷ gives (Deliver 9) 0 0
+    ∷ cellWeighs 2 0 3
+    ∷ gives (Export 2 0 1) 0 8
+    ∷ slotWeighs 8 1
+    ∷ cellWeighs 2 0 2
+    ∷ [])
+
+-- "K6 VAR 0 of worker 1 exported to 0 and delivered (cell 0 there, unsafe); that cell exported indirectly to 1 and delivered (cell 1).
+-- Binding cell 0 of worker 1 to cell 1: 8."
+abbrev pub k6 : Case
+k6 =
+    case (allFree eight 2)
+    (gives (New 1) 0 0
+    ∷ gives (Export 1 0 0) 0 0
+    ∷ gives (Deliver 0) 0 0
+    ∷ gives (Indirect 0 0 1) 0 0
+    ∷ gives (Deliver 0) 0 1
+    ∷ gives (Bind 1 0 1) 8 0
+    ∷ [])
+
+-- "K7 VAR of worker 0 exported to 1 and delivered; an exported VAR of worker 1 is bound to it: done."
+abbrev pub k7 : Case
+k7 =
+    case (allFree eight 2)
+    (gives (New 0) 0 0
+    ∷ gives (Export 0 0 1) 0 0
+    ∷ gives (Deliver 0) 0 0
+    ∷ gives (New 1) 0 1
+    ∷ gives (Export 1 1 0) 0 0
+    ∷ gives (Bind 1 1 0) 0 0
+    ∷ [])
+
+-- "K8 a reading EX dropped: 7."
+abbrev pub k8 : Case
+k8 =
+    case (allFree eight 2)
+    (gives (New 0) 0 0
+    ∷ gives (Export 0 0 1) 0 0
+    ∷ gives (Deliver 0) 0 0
+    ∷ gives (ReadCell 1 0) 0x40 0
+    ∷ gives (Drop 1 0) 7 0
+    ∷ [])
+
+-- "K9 a Reference back at its owner, the only weight: entry freed."
+abbrev pub k9 : Case
+k9 =
+    case (allFree eight 2)
+    (gives (New 0) 0 0
+    ∷ gives (Export 0 0 1) 0 0
+    ∷ gives (Deliver 0) 0 0
+    ∷ gives (Transfer 1 0 0) 0 0
+    ∷ entryWeighs 0 0 1024
+    ∷ gives (Deliver 0) 0 0
+    ∷ entryWeighs 0 0 0
+    ∷ [])
+
+-- "K10 entry at the ceiling, Ask delivered: Supply of 0."
+unfoldable pub atCeiling : Tables
+atCeiling =
+    putEntry eight (putCell eight (putCell eight (allFree eight 2) 0 0 Var) 1 0 (Ex 0 0 1048576 Idle false)) 0 0 (Live 0 1048576 false)
+
+abbrev pub k10 : Case
+k10 =
+    case atCeiling
+    (gives (AskWeight 1 0) 0x40 0
+    ∷ gives (Deliver 0) 0 0
+    ∷ supplyWeighs 0 0
+    ∷ entryWeighs 0 0 1048576
+    ∷ gives (Deliver 0) 0 0
+    ∷ cellWeighs 1 0 1048576
+    ∷ [])
+
+abbrev pub numberedCases : List Case
+numberedCases = k1 ∷ k2 ∷ k3 ∷ k4-k5 ∷ k6 ∷ k7 ∷ k8 ∷ k9 ∷ k10 ∷ []
+
+-- ---- wrong turnings that the numbered cases leave open
+
+-- "Booking forgotten in new: a Reference arrives and finds no cell." Worker 1 has one free cell, its last, and a Reference comes to it.
+unfoldable pub nearlyFull : Tables
+nearlyFull =
+    record {
+      p = 2;
+      cells =
+          replicate 32 (record { kind = Free })
+          ++ (replicate 31 (record { kind = Var }) ++ replicate 193 (record { kind = Free }));
+      entries = replicate 128 (record { holding = Unused });
+      slots = replicate 64 (record { message = Empty });
+    }
+
+abbrev pub bookedCell : Case
+bookedCell =
+    case nearlyFull
+    (gives (New 0) 0 0
+    ∷ gives (Export 0 0 1) 0 0
+    ∷ gives (New 1) 12 0
+    ∷ gives (Deliver 0) 0 31
+    ∷ [])
+
+-- "Freeing an EX's weight once its value is known": the EX keeps it, and its entry stays.
+abbrev pub knownKeepsWeight : Case
+knownKeepsWeight =
+    case (allFree eight 2)
+    (gives (New 0) 0 0
+    ∷ gives (Set 0 0 7) 0 0
+    ∷ gives (Export 0 0 1) 0 0
+    ∷ gives (Deliver 0) 0 0
+    ∷ gives (ReadCell 1 0) 0x40 0
+    ∷ gives (Deliver 0) 0 0
+    ∷ gives (Deliver 0) 0 0
+    ∷ gives (ReadCell 1 0) 0 7
+    ∷ cellWeighs 1 0 1024
+    ∷ entryWeighs 0 0 1024
+    ∷ [])
+
+abbrev pub wrongTurnings : List Case
+wrongTurnings = bookedCell ∷ knownKeepsWeight ∷ []
+
+-- ---- "A whole run, input then output, line for line"
+abbrev pub wholeRun : Case
+wholeRun =
+    case (closed eight)
+    (gives (Start 2) 0 0
+    ∷ gives (New 0) 0 0
+    ∷ gives (Export 0 0 1) 0 0
+    ∷ gives (Deliver 0) 0 0
+    ∷ gives (ReadCell 1 0) 0x40 0
+    ∷ gives (Deliver 0) 0x0f 0
+    ∷ gives (Set 0 0 7) 0 0
+    ∷ gives (Deliver 0) 0 0
+    ∷ gives (Deliver 0) 0 0
+    ∷ gives (ReadCell 1 0) 0 7
+    ∷ gives (Drop 1 0) 0 0
+    ∷ gives (Deliver 0) 0 0
+    ∷ gives (Drop 0 0) 0 64
+    ∷ [])
+
+-- ---- the table is run: `hold` opens every rule, so that a proof that opens it computes
+
+-- every row holds, one after the other
+unfoldable pub holdsFrom : Tables → List Row → Bool
+unfolding allBelow sumBelow lowestFrom walkMeets eachFrom total cell entry end endKind safe entryOf exported referred busy lowestFreeCell lowestFreeEntry lowestEmptySlot exNaming freeCells booked liveEntries putCell putEntry putMessage checked exesNaming entriesNaming readsOf asksOf follow reached held point1 point2 point3 point4 point5 point6 sound entryToUse ready allFree start new set bind byLocation byReference export indirect transfer drop read ask B bound arrives deliverHome deliverAway deliverRelease deliverRead deliverAnswer deliverSupply deliverAsk deliverMessage deliver step atCeiling nearlyFull
+holdsFrom s [] = true
+holdsFrom s ((gives q code value) ∷ rows) =
+    let r = step eight s q in
+    answers (r .outcome) code value && holdsFrom (r .after) rows
+holdsFrom s ((cellWeighs w c n) ∷ rows) = eqb (exWeight (cell eight s w c)) n && holdsFrom s rows
+holdsFrom s ((slotWeighs k n) ∷ rows) = eqb (messageWeight (message s k)) n && holdsFrom s rows
+holdsFrom s ((supplyWeighs k n) ∷ rows) =
+    isSupply (message s k) && eqb (messageWeight (message s k)) n && holdsFrom s rows
+holdsFrom s ((entryWeighs w e n) ∷ rows) = eqb (entryWeight (entry eight s w e)) n && holdsFrom s rows
+
+unfoldable pub hold : List Case → Bool
+unfolding holdsFrom
+hold [] = true
+hold ((case s rows) ∷ cases) = holdsFrom s rows && hold cases

@@ -1,0 +1,64 @@
+-- One call of the twelve, sequences of calls, and deliveries in a given order. Assumes nothing.
+use Prim.Native.Nat.{ℕ, suc, _+_}
+use mathlib.Core.Bool.{Bool, true, false}
+use mathlib.Core.List.{List, [], _∷_}
+use mathlib.Core.Path.{_≡_}
+use Rattle.numbers.specs.Below.{bit}
+use Rattle.tables.specs.declared.Call.{Call}
+use Rattle.tables.specs.declared.Call.the-variants.{Start, New, Set, Bind, Export, Indirect, Transfer, Drop, ReadCell, AskWeight, Deliver, Bound}
+use Rattle.tables.specs.Machine.{Machine, Tables}
+use Rattle.rules.specs.Answers.{Result, succeeds}
+use Rattle.rules.specs.Calls.{start, new, set, bind, export, indirect, transfer, drop, read, ask, bound}
+use Rattle.rules.specs.Deliver.{deliver}
+
+module _ (𝓜 : Machine) where
+  unfoldable pub step : Tables → Call → Result
+  step s (Start p) = start 𝓜 p
+  step s (New w) = new 𝓜 s w
+  step s (Set w c n) = set 𝓜 s w c n
+  step s (Bind w c x) = bind 𝓜 s w c x
+  step s (Export w c to) = export 𝓜 s w c to
+  step s (Indirect w c to) = indirect 𝓜 s w c to
+  step s (Transfer w c to) = transfer 𝓜 s w c to
+  step s (Drop w c) = drop 𝓜 s w c
+  step s (ReadCell w c) = read 𝓜 s w c
+  step s (AskWeight w c) = ask 𝓜 s w c
+  step s (Deliver k) = deliver 𝓜 s k
+  step s Bound = bound 𝓜 s
+
+  -- the state after a list of calls
+  unfoldable pub run : Tables → List Call → Tables
+  run s [] = s
+  run s (q ∷ qs) = run (step s q .after) qs
+
+  -- a delivery succeeds
+  abbrev pub delivers : Tables → ℕ → Bool
+  delivers s k = succeeds (deliver 𝓜 s k .outcome)
+
+  -- slots delivered in this order, refused ones skipped: the state reached, and how many succeed
+  unfoldable pub drained : Tables → List ℕ → Tables
+  drained s [] = s
+  drained s (k ∷ ks) = drained (deliver 𝓜 s k .after) ks
+
+  unfoldable pub successes : Tables → List ℕ → ℕ
+  successes s [] = 0
+  successes s (k ∷ ks) = bit (delivers s k) + successes (deliver 𝓜 s k .after) ks
+
+abbrev pub isStart : Call → Bool
+isStart (Start p) = true
+isStart (New w) = false
+isStart (Set w c n) = false
+isStart (Bind w c x) = false
+isStart (Export w c to) = false
+isStart (Indirect w c to) = false
+isStart (Transfer w c to) = false
+isStart (Drop w c) = false
+isStart (ReadCell w c) = false
+isStart (AskWeight w c) = false
+isStart (Deliver k) = false
+isStart Bound = false
+
+-- the states reached from an accepted start by calls with no start among them, refused ones included
+pub data Reached (𝓜 : Machine) : Tables → Type 0 where
+  begun : (p : ℕ) → succeeds (start 𝓜 p .outcome) ≡ true → Reached 𝓜 (start 𝓜 p .after)
+  after : {s : Tables} → Reached 𝓜 s → (q : Call) → isStart q ≡ false → Reached 𝓜 (step 𝓜 s q .after)

@@ -1,0 +1,138 @@
+-- Tests and changes of one part of the state: what a cell, an entry or a slot holds. Assumes nothing.
+use Prim.Native.Nat.{ℕ, _+_, _-_}
+use mathlib.Core.Bool.{Bool, true, false, _&&_, _||_, cond}
+use lib.Dec.{eqb}
+use Rattle.tables.specs.declared.Status.{Status}
+use Rattle.tables.specs.declared.Status.the-variants.{Idle, Reading, Known}
+use Rattle.tables.specs.declared.Kind.{Kind}
+use Rattle.tables.specs.declared.Kind.the-variants.{Free, Var, Val, Ref, Ex}
+use Rattle.tables.specs.declared.Holding.{Holding}
+use Rattle.tables.specs.declared.Holding.the-variants.{Unused, Live}
+use Rattle.tables.specs.declared.Message.{Message}
+use Rattle.tables.specs.declared.Message.the-variants.{Empty, Reference, Release, Read, Answer, Ask, Supply}
+use Rattle.tables.specs.declared.Place.{Place}
+use Rattle.tables.specs.declared.Place.the-variants.{Nowhere, At}
+
+-- ---- cells
+
+-- what f makes of an EX's fields; d of any other cell
+abbrev pub onEx : {A : Type 0} → A → (ℕ → ℕ → ℕ → Status → Bool → A) → Kind → A
+onEx d f Free = d
+onEx d f Var = d
+onEx d f (Val n) = d
+onEx d f (Ref c) = d
+onEx d f (Ex o e w st a) = f o e w st a
+
+-- what f makes of the cell that a REF names; d of any other cell
+abbrev pub onRef : {A : Type 0} → A → (ℕ → A) → Kind → A
+onRef d f Free = d
+onRef d f Var = d
+onRef d f (Val n) = d
+onRef d f (Ref c) = f c
+onRef d f (Ex o e w st a) = d
+
+abbrev pub isFree : Kind → Bool
+isFree Free = true
+isFree Var = false
+isFree (Val n) = false
+isFree (Ref c) = false
+isFree (Ex o e w st a) = false
+
+abbrev pub isVar : Kind → Bool
+isVar Free = false
+isVar Var = true
+isVar (Val n) = false
+isVar (Ref c) = false
+isVar (Ex o e w st a) = false
+
+abbrev pub isVal : Kind → Bool
+isVal Free = false
+isVal Var = false
+isVal (Val n) = true
+isVal (Ref c) = false
+isVal (Ex o e w st a) = false
+
+abbrev pub isEx : Kind → Bool
+isEx k = onEx false (λ o e w st a. true) k
+
+abbrev pub readingOf : Status → Bool
+readingOf Idle = false
+readingOf Reading = true
+readingOf (Known n) = false
+
+-- an EX that is reading, and one that is asking
+abbrev pub isReading : Kind → Bool
+isReading k = onEx false (λ o e w st a. readingOf st) k
+
+abbrev pub isAsking : Kind → Bool
+isAsking k = onEx false (λ o e w st a. a) k
+
+-- an EX that names the entry e of worker o
+abbrev pub exNames : ℕ → ℕ → Kind → Bool
+exNames o e k = onEx false (λ owner entry w st a. eqb owner o && eqb entry e) k
+
+-- the entry that an EX names
+abbrev pub namedBy : Kind → Place
+namedBy k = onEx Nowhere (λ o e w st a. At o e) k
+
+-- the weight of an EX
+abbrev pub exWeight : Kind → ℕ
+exWeight k = onEx 0 (λ o e w st a. w) k
+
+-- a REF that names the cell c
+abbrev pub refNames : ℕ → Kind → Bool
+refNames c k = onRef false (λ d. eqb d c) k
+
+-- the number of the end of the cell c, which holds this
+abbrev pub endFrom : Kind → ℕ → ℕ
+endFrom k c = onRef c (λ d. d) k
+
+-- the entry e of worker o is at this place
+abbrev pub isAt : ℕ → ℕ → Place → Bool
+isAt o e Nowhere = false
+isAt o e (At owner entry) = eqb owner o && eqb entry e
+
+-- ---- entries
+
+abbrev pub isUnused : Holding → Bool
+isUnused Unused = true
+isUnused (Live c w t) = false
+
+abbrev pub isLive : Holding → Bool
+isLive Unused = false
+isLive (Live c w t) = true
+
+abbrev pub isTainted : Holding → Bool
+isTainted Unused = false
+isTainted (Live c w t) = t
+
+-- a live entry that names the cell c
+abbrev pub entryNames : ℕ → Holding → Bool
+entryNames c Unused = false
+entryNames c (Live d w t) = eqb d c
+
+-- the weight of an entry, 0 where it is free
+abbrev pub entryWeight : Holding → ℕ
+entryWeight Unused = 0
+entryWeight (Live c w t) = w
+
+-- ---- slots
+
+abbrev pub isEmpty : Message → Bool
+isEmpty Empty = true
+isEmpty (Reference to o e w) = false
+isEmpty (Release o e w) = false
+isEmpty (Read r c o e) = false
+isEmpty (Answer r c n) = false
+isEmpty (Ask a c o e) = false
+isEmpty (Supply a c w) = false
+
+-- a Reference going to worker w
+abbrev pub goesTo : ℕ → Message → Bool
+goesTo w Empty = false
+goesTo w (Reference to o e n) = eqb to w
+goesTo w (Release o e n) = false
+goesTo w (Read r c o e) = false
+goesTo w (Answer r c n) = false
+goesTo w (Ask a c o e) = false
+goesTo w (Supply a c n) = false

@@ -1,0 +1,146 @@
+// The types of document 01's forms: the state, a call, its answer.
+
+// An EX is idle, reading, or known with its value.
+pub enum Status {
+    Idle,
+    Reading,
+    Known(u32),
+}
+
+// What a cell holds. A REF names a cell of the same worker; an EX an entry of its owner's.
+pub enum Kind {
+    Free,
+    Var,
+    Val(u32),
+    Ref(u8),
+    Ex {
+        owner: u8,
+        entry: u8,
+        weight: u32,
+        status: Status,
+        asking: bool,
+    },
+}
+
+pub struct Cell {
+    pub kind: Kind,
+}
+
+// What an export entry holds.
+pub enum Holding {
+    Unused,
+    Live {
+        cell: u8,
+        weight: u32,
+        tainted: bool,
+    },
+}
+
+pub struct Entry {
+    pub holding: Holding,
+}
+
+// What a message slot holds.
+pub enum Message {
+    Empty,
+    Reference {
+        to: u8,
+        owner: u8,
+        entry: u8,
+        weight: u32,
+    },
+    Release {
+        owner: u8,
+        entry: u8,
+        weight: u32,
+    },
+    Read {
+        reader: u8,
+        cell: u8,
+        owner: u8,
+        entry: u8,
+    },
+    Answer {
+        reader: u8,
+        cell: u8,
+        n: u32,
+    },
+    Ask {
+        asker: u8,
+        cell: u8,
+        owner: u8,
+        entry: u8,
+    },
+    Supply {
+        asker: u8,
+        cell: u8,
+        weight: u32,
+    },
+}
+
+pub struct Slot {
+    pub message: Message,
+}
+
+// P workers; cell c of worker w stands at w * 32 + c, entry e at w * 16 + e.
+pub struct State {
+    pub p: u8,
+    pub cells: [Cell; 256],
+    pub entries: [Entry; 128],
+    pub slots: [Slot; 64],
+}
+
+// Where a walk along references stands: at an entry of an owner's, or nowhere.
+pub enum Place {
+    Nowhere,
+    At { owner: u8, entry: u8 },
+}
+
+// The calls, with their arguments.
+pub enum Call {
+    Start { p: u8 },
+    New { w: u8 },
+    Set { w: u8, c: u8, n: u32 },
+    Bind { w: u8, c: u8, x: u8 },
+    Export { w: u8, c: u8, to: u8 },
+    Indirect { w: u8, c: u8, to: u8 },
+    Transfer { w: u8, c: u8, to: u8 },
+    Drop { w: u8, c: u8 },
+    ReadCell { w: u8, c: u8 },
+    AskWeight { w: u8, c: u8 },
+    Deliver { slot: u8 },
+    Bound,
+}
+
+// Why a call is refused, in the order of the table of refusal numbers.
+pub enum Refusal {
+    WorkerCount,
+    NotSound,
+    NoWorker,
+    ToItself,
+    NoCell,
+    WrongKind,
+    Busy,
+    Unsafe,
+    LastWeight,
+    OverCeiling,
+    NoEntry,
+    NoRoom,
+    NoSlot,
+    NoMessage,
+    NotReady,
+}
+
+// A call's answer: done with a value, sent with its slot, or without a value.
+pub enum Outcome {
+    Done(u32),
+    Sent(u8),
+    Waiting,
+    Unbound,
+    Refused(Refusal),
+}
+
+pub struct Reply {
+    pub outcome: Outcome,
+    pub state: State,
+}
