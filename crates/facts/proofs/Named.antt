@@ -1,0 +1,79 @@
+-- From a test of one part to the part itself: an EX that names an entry, an entry that names a cell. Assumes nothing.
+use Prim.Native.Nat.{ℕ}
+use mathlib.Core.Path.{_≡_, refl, sym, ap, _∙_}
+use mathlib.Core.Bool.{Bool, true, false, _&&_}
+use lib.Dec.{eqb}
+use borrow.Author.Tests.{eqb-true, eq-eqb}
+use Rattle.numbers.specs.Tests.{absurd-bool, and-l, and-r, and-i}
+use Rattle.tables.specs.declared.Status.{Status}
+use Rattle.tables.specs.declared.Kind.{Kind}
+use Rattle.tables.specs.declared.Kind.the-variants.{Free, Var, Val, Ref, Ex}
+use Rattle.tables.specs.declared.Holding.{Holding}
+use Rattle.tables.specs.declared.Holding.the-variants.{Unused, Live}
+use Rattle.tables.specs.Parts.{isFree, isEx, exNames, isLive, entryNames}
+
+-- two numbers tested at once
+pub both-eq : (a b c d : ℕ) → (eqb a b && eqb c d) ≡ true → (a ≡ b) × (c ≡ d)
+both-eq a b c d h = (eqb-true a b (and-l (eqb a b) (eqb c d) h), eqb-true c d (and-r (eqb a b) (eqb c d) h))
+
+pub eq-both : (a c : ℕ) → (eqb a a && eqb c c) ≡ true
+eq-both a c = and-i (eq-eqb a a refl) (eq-eqb c c refl)
+
+-- an EX, with its fields
+pub record IsEx (k : Kind) : Type 0 where
+  pub owner : ℕ
+  pub entry : ℕ
+  pub weight : ℕ
+  pub status : Status
+  pub asking : Bool
+  pub is : k ≡ Ex owner entry weight status asking
+
+pub the-ex : (k : Kind) → isEx k ≡ true → IsEx k
+the-ex Free h = absurd-bool h refl
+the-ex Var h = absurd-bool h refl
+the-ex (Val n) h = absurd-bool h refl
+the-ex (Ref c) h = absurd-bool h refl
+the-ex (Ex o e n st a) h = record { owner = o; entry = e; weight = n; status = st; asking = a; is = refl }
+
+-- an EX that names the entry e of worker o
+pub record ExOf (o e : ℕ) (k : Kind) : Type 0 where
+  pub weight : ℕ
+  pub status : Status
+  pub asking : Bool
+  pub is : k ≡ Ex o e weight status asking
+
+pub the-ex-of : (o e : ℕ) (k : Kind) → exNames o e k ≡ true → ExOf o e k
+the-ex-of o e Free h = absurd-bool h refl
+the-ex-of o e Var h = absurd-bool h refl
+the-ex-of o e (Val n) h = absurd-bool h refl
+the-ex-of o e (Ref c) h = absurd-bool h refl
+the-ex-of o e (Ex o′ e′ n st a) h =
+    let q = both-eq o′ o e′ e h in
+    record { weight = n; status = st; asking = a; is = rw (q .0, q .1) }
+
+pub ex-of-names : (o e : ℕ) (k : Kind) → ExOf o e k → exNames o e k ≡ true
+ex-of-names o e k x = rw (x .is) (eq-both o e)
+
+-- a live entry that names the cell c
+pub record EntryOf (c : ℕ) (x : Holding) : Type 0 where
+  pub weight : ℕ
+  pub tainted : Bool
+  pub is : x ≡ Live c weight tainted
+
+pub the-entry-of : (c : ℕ) (x : Holding) → entryNames c x ≡ true → EntryOf c x
+the-entry-of c Unused h = absurd-bool h refl
+the-entry-of c (Live d n t) h = record { weight = n; tainted = t; is = rw (eqb-true d c h) }
+
+pub record IsLive (x : Holding) : Type 0 where
+  pub cell : ℕ
+  pub weight : ℕ
+  pub tainted : Bool
+  pub is : x ≡ Live cell weight tainted
+
+pub the-live : (x : Holding) → isLive x ≡ true → IsLive x
+the-live Unused h = absurd-bool h refl
+the-live (Live c n t) h = record { cell = c; weight = n; tainted = t; is = refl }
+
+pub not-live : (x : Holding) → isLive x ≡ false → x ≡ Unused
+not-live Unused h = refl
+not-live (Live c n t) h = absurd-bool refl h
