@@ -4,11 +4,12 @@ use native.Mathlib.Omega.{arith}
 use native.Mathlib.Numerals.{add-one}
 use native.Mathlib.Nat.{sub-self, sub-zero}
 use native.Mathlib.Decide.{ℕ-discrete}
-use mathlib.Core.Path.{_≡_, refl, sym, ap, ap₂, _∙_}
+use mathlib.Core.Path.{_≡_, refl, sym, ap, ap₂, subst, _∙_}
 use mathlib.Core.Bool.{Bool, true, false, _&&_, cond}
 use mathlib.Core.Logic.{_⊎_, inl, inr, ⊎-elim, _≢_}
-use Rattle.numbers.specs.Below.{allBelow, sumBelow, bit, countBelow, lowestFrom, lowest}
-use Rattle.numbers.specs.Tests.{and-l, and-r, and-i}
+use borrow.Author.Tests.{ltb-false}
+use Rattle.numbers.specs.Below.{allBelow, sumBelow, bit, countBelow, lowestFrom, lowest, someBelow}
+use Rattle.numbers.specs.Tests.{and-l, and-r, and-i, absurd-bool}
 
 -- a number below suc n is below n or is n
 pub below-cases : (k n : ℕ) → k < suc n → (k < n) ⊎ (k ≡ n)
@@ -70,6 +71,30 @@ sum-point (suc n) k f g l h =
     (λ (a : k < n). omega (arith, sum-point n k f g a (λ i b. h i (omega arith)), h n (omega arith) (λ e. omega arith)))
     (λ (e : k ≡ n). rw e (omega (arith, sum-cong n f g (λ i b. h i (omega arith) (λ d. omega arith)))))
     (below-cases k n l)
+
+-- larger terms, larger sum
+pub sum-mono : (n : ℕ) (f g : ℕ → ℕ) → ((i : ℕ) → i < n → f i ≤ g i) → sumBelow n f ≤ sumBelow n g
+unfolding sumBelow
+sum-mono zero f g h = omega arith
+sum-mono (suc n) f g h = omega (arith, sum-mono n f g (λ i l. h i (omega arith)), h n (omega arith))
+
+pub sum-less : (n k : ℕ) (f g : ℕ → ℕ) → k < n → ((i : ℕ) → i < n → f i ≤ g i) → f k < g k → sumBelow n f < sumBelow n g
+unfolding sumBelow
+sum-less zero k f g l h m = absurd (omega arith)
+sum-less (suc n) k f g l h m =
+    ⊎-elim
+    (λ (a : k < n). omega (arith, sum-less n k f g a (λ i b. h i (omega arith)) m, h n (omega arith)))
+    (λ (e : k ≡ n). omega (arith, sum-mono n f g (λ i b. h i (omega arith)), subst (λ (j : ℕ). f j < g j) e m))
+    (below-cases k n l)
+
+pub count-le : (n : ℕ) (p : ℕ → Bool) → countBelow n p ≤ n
+unfolding sumBelow
+count-le zero p = omega arith
+count-le (suc n) p = go (p n) (count-le n p)
+  where
+    go : (b : Bool) → sumBelow n (λ i. bit (p i)) ≤ n → sumBelow n (λ i. bit (p i)) + bit b ≤ suc n
+    go true h = omega arith
+    go false h = omega arith
 
 -- a term is at most the sum, and so are two
 pub term-le : (n k : ℕ) (f : ℕ → ℕ) → k < n → f k ≤ sumBelow n f
@@ -202,3 +227,14 @@ past-from p (suc n) i h j a b = go (p i) refl h (past-from p n (suc i)) (ℕ-dis
 -- where the search comes to the bound, none has p
 pub lowest-past : (n : ℕ) (p : ℕ → Bool) → n ≤ lowest n p → (j : ℕ) → j < n → p j ≡ false
 lowest-past n p h j l = past-from p n 0 (omega arith) j (omega arith) (omega arith)
+
+-- some number below n has p, and none has
+pub some-of : (n : ℕ) (p : ℕ → Bool) (i : ℕ) → i < n → p i ≡ true → someBelow n p ≡ true
+some-of n p i l h = go (someBelow n p) refl
+  where
+    go : (b : Bool) → someBelow n p ≡ b → someBelow n p ≡ true
+    go true e = e
+    go false e = absurd-bool h (lowest-past n p (ltb-false (lowest n p) n e) i l)
+
+pub some-none : (n : ℕ) (p : ℕ → Bool) → someBelow n p ≡ false → (i : ℕ) → i < n → p i ≡ false
+some-none n p h i l = lowest-past n p (ltb-false (lowest n p) n h) i l

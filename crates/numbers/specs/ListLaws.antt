@@ -6,7 +6,7 @@ use mathlib.Core.Path.{_≡_, refl, sym, ap, ap₂, _∙_}
 use mathlib.Core.Bool.{Bool, true, false, _&&_}
 use mathlib.Core.List.{List, [], _∷_}
 use mathlib.Core.Logic.{⊎-elim, _≢_}
-use lib.ListN.{length, getD, set}
+use lib.ListN.{length, getD, set, replicate}
 use Rattle.numbers.specs.Below.{allBelow, sumBelow}
 use Rattle.numbers.specs.Lists.{eachFrom, each, total}
 use Rattle.numbers.specs.Tests.{and-l, and-r, and-i, absurd-bool, or-else}
@@ -94,3 +94,14 @@ module _ {A : Type 0} where
   unfolding total
   total-none f [] d h = refl
   total-none f (x ∷ xs) d h = omega (arith, h 0 (omega arith), total-none f xs d (λ i k. h (suc i) (omega arith)))
+
+  pub total-mono : (f g : A → ℕ) (l : List A) (d : A) → ((i : ℕ) → i < length l → f (getD l i d) ≤ g (getD l i d)) → total f l ≤ total g l
+  unfolding total
+  total-mono f g [] d h = omega arith
+  total-mono f g (x ∷ xs) d h = omega (arith, h 0 (omega arith), total-mono f g xs d (λ i k. h (suc i) (omega arith)))
+
+  -- a table of blanks holds a blank at every number
+  pub blank : (n i : ℕ) (d : A) → getD (replicate n d) i d ≡ d
+  blank zero i d = refl
+  blank (suc n) zero d = refl
+  blank (suc n) (suc i) d = blank n i d

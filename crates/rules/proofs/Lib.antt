@@ -1,3 +1,32 @@
--- What is shown of the rules by running them.
+-- What is shown of the rules.
+-- Computed: the order of the refusals, the numbered cases.
 pub mod Order
 pub mod Cases
+-- The soundness test holds exactly where the facts of a sound state do.
+pub mod Inside
+pub mod Named
+pub mod Busy
+pub mod Derived
+pub mod FromTest
+pub mod ToTest
+-- A change that keeps what it must keeps the facts, the chains, what is known and the rank.
+pub mod Next
+pub mod Kept
+pub mod Onward
+pub mod Carried
+pub mod Rank
+pub mod Stays
+pub mod Count
+-- Every call makes such a change, and every delivery leaves less to be delivered.
+pub mod Moves
+pub mod Measure
+pub mod Steps
+pub mod Local
+pub mod Entries
+pub mod Send
+pub mod Arrive
+pub mod Begun
+-- Demand 3, for every machine, and at document 01's sizes.
+pub mod Chains
+pub mod Whole
+pub mod Eight

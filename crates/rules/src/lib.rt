@@ -1,1 +1,1 @@
-// No code: specs/ has document 01 as definitions, proofs/ its numbered cases.
+// No code: specs/ has document 01 as definitions and demand 3 as statements; proofs/ has what is shown of them.

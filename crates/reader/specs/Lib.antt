@@ -1,0 +1,2 @@
+-- What a reader finds at its place.
+pub mod Read

@@ -1,0 +1,88 @@
+-- A chain has one end: two values at its end are one, and a Read on a chain that ends in a value is ready. Assumes nothing.
+use Prim.Native.Nat.{ℕ, zero, suc, _+_, _-_, _<_, _≤_}
+use native.Mathlib.Decide.{ℕ-discrete, decLt}
+use native.Mathlib.Omega.{arith}
+use mathlib.Core.Path.{_≡_, refl, sym, ap, subst, _∙_}
+use mathlib.Core.Bool.{Bool, true, false}
+use Rattle.numbers.specs.Tests.{absurd-bool}
+use Rattle.tables.specs.declared.Kind.{Kind}
+use Rattle.tables.specs.declared.Kind.the-variants.{Free, Var, Val, Ref, Ex}
+use Rattle.tables.specs.declared.Holding.{Holding}
+use Rattle.tables.specs.declared.Holding.the-variants.{Unused, Live}
+use Rattle.tables.specs.declared.Place.{Place}
+use Rattle.tables.specs.declared.Place.the-variants.{Nowhere, At}
+use Rattle.tables.specs.Machine.{Machine, Tables}
+use Rattle.tables.specs.Parts.{isVar, namedBy}
+use Rattle.tables.specs.Look.{entry, endKind}
+use Rattle.rules.specs.Sound.{follow, through}
+use Rattle.rules.specs.Refusals.{entryEnd}
+use Rattle.rules.specs.Facts.{ahead, EndsIn}
+use Rattle.rules.proofs.Onward.{nowhere-at, ahead-nowhere}
+use Rattle.rules.proofs.Arrive.{ahead-add}
+
+module _ (𝓜 : Machine) (s : Tables) where
+  -- a step goes to what the end of the entry's cell names
+  follow-end : (o e : ℕ) → follow 𝓜 s (At o e) ≡ namedBy (entryEnd 𝓜 s o (entry 𝓜 s o e))
+  unfolding follow
+  follow-end o e = go (entry 𝓜 s o e)
+    where
+      go : (x : Holding) → through 𝓜 s o x ≡ namedBy (entryEnd 𝓜 s o x)
+      go Unused = refl
+      go (Live c n t) = refl
+
+  -- past an end that is a VAR or a VAL there is nothing
+  past-end : (p : Place) (m n o e : ℕ) → ahead 𝓜 s m p ≡ At o e → namedBy (entryEnd 𝓜 s o (entry 𝓜 s o e)) ≡ Nowhere → m < n → ahead 𝓜 s n p ≡ Nowhere
+  unfolding ahead
+  past-end p m n o e q plain less =
+      let more = n - suc m in
+      let split : m + suc more ≡ n = omega arith in
+      ap (λ (i : ℕ). ahead 𝓜 s i p) (sym split)
+      ∙ ahead-add 𝓜 s m (suc more) p
+      ∙ ap (λ (x : Place). ahead 𝓜 s more (follow 𝓜 s x)) q
+      ∙ ap (ahead 𝓜 s more) (follow-end o e ∙ plain)
+      ∙ ahead-nowhere 𝓜 s more
+
+  one-place : (m : ℕ) (p : Place) (o e o′ e′ : ℕ) → ahead 𝓜 s m p ≡ At o e → ahead 𝓜 s m p ≡ At o′ e′ → (o ≡ o′) × (e ≡ e′)
+  one-place m p o e o′ e′ q r =
+      let a : o ≡ o′ = cc in
+      let b : e ≡ e′ = cc in
+      (a, b)
+
+  same-end : (o e o′ e′ : ℕ) → o ≡ o′ → e ≡ e′ → entryEnd 𝓜 s o (entry 𝓜 s o e) ≡ entryEnd 𝓜 s o′ (entry 𝓜 s o′ e′)
+  same-end o e o′ e′ a b =
+      ap (λ (u : ℕ). entryEnd 𝓜 s u (entry 𝓜 s u e)) a ∙ ap (λ (u : ℕ). entryEnd 𝓜 s o′ (entry 𝓜 s o′ u)) b
+
+  -- a chain that ends in u and in v: they are one
+  pub ends-one : (p : Place) (u v : ℕ) → EndsIn 𝓜 s p u → EndsIn 𝓜 s p v → u ≡ v
+  ends-one p u v x y = go (decLt (x .steps) (y .steps)) (decLt (y .steps) (x .steps))
+    where
+      val-one : (a b : ℕ) → Val a ≡ Val b → a ≡ b
+      val-one a b q = cc
+
+      go : Dec (x .steps < y .steps) → Dec (y .steps < x .steps) → u ≡ v
+      go (yes l) r = nowhere-at (sym (past-end p (x .steps) (y .steps) (x .owner) (x .number) (x .there) (ap namedBy (x .value)) l) ∙ y .there)
+      go (no l) (yes r) = nowhere-at (sym (past-end p (y .steps) (x .steps) (y .owner) (y .number) (y .there) (ap namedBy (y .value)) r) ∙ x .there)
+      go (no l) (no r) =
+          let same : x .steps ≡ y .steps = omega arith in
+          let at = one-place (y .steps) p (x .owner) (x .number) (y .owner) (y .number) (ap (λ (n : ℕ). ahead 𝓜 s n p) (sym same) ∙ x .there) (y .there) in
+          let both : Val u ≡ Val v = sym (x .value) ∙ same-end (x .owner) (x .number) (y .owner) (y .number) (at .0) (at .1) ∙ y .value in
+          val-one u v both
+
+  -- a place on a chain that ends in a value has no VAR for its end
+  pub on-chain : (p : Place) (n v o e : ℕ) → EndsIn 𝓜 s p v → ahead 𝓜 s n p ≡ At o e → isVar (entryEnd 𝓜 s o (entry 𝓜 s o e)) ≡ true → ⊥
+  on-chain p n v o e x q var = go (decLt n (x .steps)) (decLt (x .steps) n)
+    where
+      var-named : (k : Kind) → isVar k ≡ true → namedBy k ≡ Nowhere
+      var-named Free t = refl
+      var-named Var t = refl
+      var-named (Val m) t = refl
+      var-named (Ref d) t = refl
+      var-named (Ex a b m st w) t = absurd-bool t refl
+
+      go : Dec (n < x .steps) → Dec (x .steps < n) → ⊥
+      go (yes l) r = nowhere-at (sym (past-end p n (x .steps) o e q (var-named (entryEnd 𝓜 s o (entry 𝓜 s o e)) var) l) ∙ x .there)
+      go (no l) (yes r) = nowhere-at (sym (past-end p (x .steps) n (x .owner) (x .number) (x .there) (ap namedBy (x .value)) r) ∙ q)
+      go (no l) (no r) =
+          let same : n ≡ x .steps = omega arith in
+          let at = one-place (x .steps) p o e (x .owner) (x .number) (ap (λ (i : ℕ). ahead 𝓜 s i p) (sym same) ∙ q) (x .there) in
+          absurd-bool var (ap isVar (same-end o e (x .owner) (x .number) (at .0) (at .1) ∙ x .value))

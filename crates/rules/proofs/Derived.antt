@@ -1,0 +1,145 @@
+-- What follows from the facts: ranges, live entries, weights below the ceiling, a waiting cell for each message that needs one. Assumes nothing.
+use Prim.Native.Nat.{ℕ, zero, suc, _+_, _<_, _≤_}
+use native.Mathlib.Omega.{arith}
+use mathlib.Core.Path.{_≡_, refl, sym, ap, _∙_}
+use mathlib.Core.Bool.{Bool, true, false, _&&_, cond}
+use lib.Dec.{eqb}
+use Rattle.numbers.specs.Below.{bit}
+use Rattle.numbers.specs.Tests.{absurd-bool}
+use Rattle.tables.specs.declared.Status.{Status}
+use Rattle.tables.specs.declared.Kind.{Kind}
+use Rattle.tables.specs.declared.Kind.the-variants.{Free, Var, Val, Ref, Ex}
+use Rattle.tables.specs.declared.Holding.{Holding}
+use Rattle.tables.specs.declared.Holding.the-variants.{Unused, Live}
+use Rattle.tables.specs.declared.Message.{Message}
+use Rattle.tables.specs.declared.Message.the-variants.{Empty, Reference, Release, Read, Answer, Ask, Supply}
+use Rattle.tables.specs.declared.Place.{Place}
+use Rattle.tables.specs.declared.Place.the-variants.{Nowhere, At}
+use Rattle.tables.specs.Machine.{Machine, Tables}
+use Rattle.tables.specs.Parts.{isFree, isReading, isAsking, exNames, namedBy, isLive, entryWeight}
+use Rattle.tables.specs.Look.{cell, entry, end, endKind, message}
+use Rattle.rules.specs.Sound.{readsFor, asksFor, readsOf, asksOf, follow, through, cellHolds, messageHolds, held}
+use Rattle.rules.specs.Facts.{CellFact, EntryFact, Facts, ahead}
+use Rattle.rules.proofs.Inside.{cell-inside, entry-inside, cell-total, message-total}
+use Rattle.rules.proofs.Named.{eq-both, IsLive, the-live, ExOf, the-ex-of}
+
+-- a weight that is not 0 is a live entry's
+pub weight-live : (x : Holding) → 1 ≤ entryWeight x → isLive x ≡ true
+weight-live Unused h = absurd (omega arith)
+weight-live (Live c n t) h = refl
+
+bit-one : (b : Bool) → 1 ≤ bit b → b ≡ true
+bit-one true h = refl
+bit-one false h = absurd (omega arith)
+
+-- a cell and a message hold at most what is held
+module _ (𝓜 : Machine) (s : Tables) where
+  pub cell-held : (w c o e : ℕ) → cellHolds 𝓜 s o e (cell 𝓜 s w c) ≤ held 𝓜 s o e
+  unfolding held
+  cell-held w c o e = omega (arith, cell-total 𝓜 s (cellHolds 𝓜 s o e) refl w c)
+
+  pub message-held : (k o e : ℕ) → messageHolds 𝓜 s o e (message s k) ≤ held 𝓜 s o e
+  unfolding held
+  message-held k o e = omega (arith, message-total 𝓜 s (messageHolds 𝓜 s o e) refl k)
+
+  -- an EX's weight, and a message's, is held on its entry
+  pub ex-held : (w c o e n : ℕ) (st : Status) (a : Bool) → cell 𝓜 s w c ≡ Ex o e n st a → n ≤ held 𝓜 s o e
+  ex-held w c o e n st a x =
+      let h : cellHolds 𝓜 s o e (cell 𝓜 s w c) ≡ n = rw (x, eq-both o e) in
+      omega (arith, cell-held w c o e)
+
+  pub sent-held : (k o e n : ℕ) (m : Message) → message s k ≡ m → messageHolds 𝓜 s o e m ≡ n → n ≤ held 𝓜 s o e
+  sent-held k o e n m x h = omega (arith, message-held k o e, ap (messageHolds 𝓜 s o e) x, h)
+
+  -- where every entry's weight is what is held on it, one on which something is held is live
+  module _ (weighed : (o e : ℕ) → entryWeight (entry 𝓜 s o e) ≡ held 𝓜 s o e) where
+    pub held-live : (o e : ℕ) → 1 ≤ held 𝓜 s o e → isLive (entry 𝓜 s o e) ≡ true
+    held-live o e h = weight-live (entry 𝓜 s o e) (omega (arith, weighed o e))
+
+    pub ex-live : ((w c : ℕ) → CellFact 𝓜 s w (cell 𝓜 s w c)) → (w c o e n : ℕ) (st : Status) (a : Bool) → cell 𝓜 s w c ≡ Ex o e n st a → isLive (entry 𝓜 s o e) ≡ true
+    ex-live cells w c o e n st a x =
+        let f : CellFact 𝓜 s w (Ex o e n st a) = rw x at (cells w c) in
+        held-live o e (omega (arith, ex-held w c o e n st a x, f .2))
+
+-- a place that, where it is an entry, is a live one
+abbrev pub LivePlace : Machine → Tables → Place → Type 0
+LivePlace 𝓜 s p = (o e : ℕ) → p ≡ At o e → isLive (entry 𝓜 s o e) ≡ true
+
+module _ (𝓜 : Machine) (s : Tables) (F : Facts 𝓜 s) where
+  -- a cell that is not free belongs to a worker in use
+  pub cell-used : (w c : ℕ) → isFree (cell 𝓜 s w c) ≡ false → w < s .p
+  cell-used w c h = go (cell 𝓜 s w c) h (F .cells w c)
+    where
+      go : (k : Kind) → isFree k ≡ false → CellFact 𝓜 s w k → w < s .p
+      go Free t f = absurd-bool refl t
+      go Var t f = f
+      go (Val n) t f = f
+      go (Ref d) t f = f .0
+      go (Ex o e n st a) t f = f .0
+
+  pub live-fact : (o e : ℕ) (l : IsLive (entry 𝓜 s o e)) → EntryFact 𝓜 s o (Live (l .cell) (l .weight) (l .tainted))
+  live-fact o e l = rw (l .is) at (F .entries o e)
+
+  -- a live entry belongs to a worker in use, and its number is an entry's
+  pub live-used : (o e : ℕ) → isLive (entry 𝓜 s o e) ≡ true → (o < s .p) × (e < 𝓜 .entries)
+  live-used o e h =
+      let l = the-live (entry 𝓜 s o e) h in
+      (cell-used o (l .cell) (live-fact o e l .2), entry-inside 𝓜 s o e h .1)
+
+  pub weight-le : (o e : ℕ) → entryWeight (entry 𝓜 s o e) ≤ 𝓜 .ceiling
+  weight-le o e = go (entry 𝓜 s o e) (F .entries o e)
+    where
+      go : (x : Holding) → EntryFact 𝓜 s o x → entryWeight x ≤ 𝓜 .ceiling
+      go Unused f = omega arith
+      go (Live c n t) f = f .0
+
+  -- what is held on an entry is at most the ceiling
+  pub held-le : (o e : ℕ) → held 𝓜 s o e ≤ 𝓜 .ceiling
+  held-le o e = omega (arith, weight-le o e, F .weighed o e)
+
+  -- what an EX names is live
+  pub names-live : (w c o e : ℕ) → exNames o e (cell 𝓜 s w c) ≡ true → isLive (entry 𝓜 s o e) ≡ true
+  names-live w c o e h =
+      let x = the-ex-of o e (cell 𝓜 s w c) h in
+      ex-live 𝓜 s (F .weighed) (F .cells) w c o e (x .weight) (x .status) (x .asking) (x .is)
+
+  -- ---- the cell of a message that has one
+  pub reading-cell : (k w c : ℕ) → readsFor w c (message s k) ≡ true → isReading (cell 𝓜 s w c) ≡ true
+  unfolding readsOf
+  reading-cell k w c h =
+      bit-one (isReading (cell 𝓜 s w c))
+      (omega (arith, message-total 𝓜 s (λ m. bit (readsFor w c m)) refl k, ap bit h, F .reads-one w c))
+
+  pub asking-cell : (k w c : ℕ) → asksFor w c (message s k) ≡ true → isAsking (cell 𝓜 s w c) ≡ true
+  unfolding asksOf
+  asking-cell k w c h =
+      bit-one (isAsking (cell 𝓜 s w c))
+      (omega (arith, message-total 𝓜 s (λ m. bit (asksFor w c m)) refl k, ap bit h, F .asks-one w c))
+
+  -- ---- places: what an EX names, and all that is ahead of it, is live
+  pub named-place : (w c : ℕ) → LivePlace 𝓜 s (namedBy (cell 𝓜 s w c))
+  named-place w c o e h = go (cell 𝓜 s w c) refl h
+    where
+      go : (k : Kind) → cell 𝓜 s w c ≡ k → namedBy k ≡ At o e → isLive (entry 𝓜 s o e) ≡ true
+      go Free x q = let y : _≡_ {A = ℕ} 0 1 = cc in absurd (omega arith)
+      go Var x q = let y : _≡_ {A = ℕ} 0 1 = cc in absurd (omega arith)
+      go (Val n) x q = let y : _≡_ {A = ℕ} 0 1 = cc in absurd (omega arith)
+      go (Ref d) x q = let y : _≡_ {A = ℕ} 0 1 = cc in absurd (omega arith)
+      go (Ex o′ e′ n st a) x q =
+          let p : o′ ≡ o = cc in
+          let r : e′ ≡ e = cc in
+          rw (p, r) at (ex-live 𝓜 s (F .weighed) (F .cells) w c o′ e′ n st a x)
+
+  pub follow-place : (p : Place) → LivePlace 𝓜 s (follow 𝓜 s p)
+  unfolding follow endKind
+  follow-place Nowhere o e h = let y : _≡_ {A = ℕ} 0 1 = cc in absurd (omega arith)
+  follow-place (At a b) o e h = go (entry 𝓜 s a b) h
+    where
+      go : (x : Holding) → through 𝓜 s a x ≡ At o e → isLive (entry 𝓜 s o e) ≡ true
+      go Unused q = let y : _≡_ {A = ℕ} 0 1 = cc in absurd (omega arith)
+      go (Live c n t) q = named-place a (end 𝓜 s a c) o e q
+
+  pub ahead-place : (n : ℕ) (p : Place) → LivePlace 𝓜 s p → LivePlace 𝓜 s (ahead 𝓜 s n p)
+  unfolding ahead
+  ahead-place zero p l = l
+  ahead-place (suc n) p l = ahead-place n (follow 𝓜 s p) (follow-place p)

@@ -1,0 +1,283 @@
+-- The calls that change one cell: new, set, bind, and the freeing of a cell by drop or transfer. Assumes nothing.
+use Prim.Native.Nat.{ℕ, zero, suc, _+_, _-_, _<_, _≤_}
+use native.Mathlib.Omega.{arith}
+use mathlib.Core.Path.{_≡_, refl, sym, ap, subst, _∙_}
+use mathlib.Core.Bool.{Bool, true, false, _&&_, _||_, not, cond}
+use mathlib.Core.List.{List, [], _∷_, _++_}
+use mathlib.Core.Logic.{_⊎_, inl, inr, _≢_}
+use lib.Dec.{eqb, ltb, leb}
+use borrow.Author.Tests.{leb-false, eqb-true}
+use Rattle.numbers.specs.Below.{bit}
+use Rattle.numbers.specs.Tests.{absurd-bool, and-i, not-yes}
+use Rattle.tables.specs.declared.Status.{Status}
+use Rattle.tables.specs.declared.Kind.{Kind}
+use Rattle.tables.specs.declared.Kind.the-variants.{Free, Var, Val, Ref, Ex}
+use Rattle.tables.specs.declared.Message.{Message}
+use Rattle.tables.specs.declared.Message.the-variants.{Empty, Reference, Release}
+use Rattle.tables.specs.declared.Outcome.the-variants.{Done}
+use Rattle.tables.specs.Machine.{Machine, Tables}
+use Rattle.tables.specs.Parts.{onEx, readingOf, isFree, isVar, isEx, isReading, isAsking, exNames, goesTo}
+use Rattle.tables.specs.Look.{cell, entry, end, endKind, safe, exported, busy, lowestFreeCell, lowestEmptySlot, booked, freeCells, message, putCell, putMessage}
+use Rattle.rules.specs.Answers.{Result, checked}
+use Rattle.rules.specs.Sound.{readsFor, asksFor, cellHolds, messageHolds}
+use Rattle.rules.specs.Refusals.{newRefusals, setRefusals, bindRefusals, transferRefusals, sendRefusals, roomRefusals, dropRefusals}
+use Rattle.rules.specs.Calls.{new, set, bind, transfer, drop, sendsWhole, releases}
+use Rattle.rules.specs.Machines.{Laws}
+use Rattle.rules.specs.Facts.{CellFact, MessageFact, Facts, ReadAhead, KnownFact, AnswerFact}
+use Rattle.rules.proofs.Inside.{cell-inside}
+use Rattle.rules.proofs.Named.{the-ex}
+use Rattle.rules.proofs.Busy.{idle-parts}
+use Rattle.rules.proofs.Derived.{cell-used}
+use Rattle.rules.specs.Change.{Change, next, seen, Placed, VarBecomes, stays, bound, Carries, Invariant}
+use Rattle.rules.proofs.Next.{cell-there}
+use Rattle.rules.proofs.Moves.{cellMove, CellMoves}
+use Rattle.rules.proofs.Steps.{Passed, after-checked, passed-both, not-false, var-is, zero-cond, free-cell, empty-slot, has-room, room-sent, room-same, free-not-busy, stays-cell, stays-cell-message}
+
+-- a message that carries the weight n of the entry e of worker o, and is no Read, Answer, Ask or Supply
+pub record Sends (𝓜 : Machine) (s : Tables) (o e n : ℕ) (m : Message) : Type 0 where
+  pub ok : (t : Tables) → t .p ≡ s .p → MessageFact 𝓜 t m
+  pub no-read : (v d : ℕ) → readsFor v d m ≡ false
+  pub no-ask : (v d : ℕ) → asksFor v d m ≡ false
+  pub holds : (t : Tables) (a b : ℕ) → messageHolds 𝓜 t a b m ≡ cond (eqb o a && eqb e b) n 0
+  pub no-ahead : (t : Tables) → ReadAhead 𝓜 t 0 m
+  pub no-answer : (t : Tables) → AnswerFact 𝓜 t m
+
+module _ (𝓜 : Machine) (L : Laws 𝓜) (s : Tables) (I : Invariant 𝓜 s) where
+  pub reference-sends : (to o e n : ℕ) → to < s .p → 1 ≤ n → Sends 𝓜 s o e n (Reference to o e n)
+  reference-sends to o e n u i =
+      record { ok = λ t q. (omega arith, i); no-read = λ v d. refl; no-ask = λ v d. refl; holds = λ t a b. refl; no-ahead = λ t. tt; no-answer = λ t. tt }
+
+  pub release-sends : (o e n : ℕ) → 1 ≤ n → Sends 𝓜 s o e n (Release o e n)
+  release-sends o e n i =
+      record { ok = λ t q. i; no-read = λ v d. refl; no-ask = λ v d. refl; holds = λ t a b. refl; no-ahead = λ t. tt; no-answer = λ t. tt }
+
+  pub weight-some : (w c o e n : ℕ) (st : Status) (a : Bool) → cell 𝓜 s w c ≡ Ex o e n st a → 1 ≤ n
+  weight-some w c o e n st a q =
+      let f : CellFact 𝓜 s w (Ex o e n st a) = subst (CellFact 𝓜 s w) q (I .facts .cells w c) in
+      f .2
+
+  -- a worker that is no refusal's
+  pub worker-used : (w : ℕ) → leb (s .p) w ≡ false → (w < s .p) × (w < 𝓜 .workers)
+  worker-used w h = (leb-false (s .p) w h, omega (arith, leb-false (s .p) w h, I .facts .p-le))
+
+  -- ---- new
+  new-moves : (w c : ℕ) → w < s .p → booked s w < freeCells 𝓜 s w → c < 𝓜 .cells → cell 𝓜 s w c ≡ Free → CellMoves 𝓜 L s w c Free Var 0 (message s 0) (message s 0)
+  new-moves w c u r l q =
+      record {
+        w-in = omega (arith, I .facts .p-le);
+        c-in = l;
+        i-in = L .slots-some;
+        old-cell = q;
+        old-message = refl;
+        cell-ok = u;
+        message-ok = inl refl;
+        busy-kept = λ b v. absurd (free-not-busy 𝓜 L s (I .facts) w c q b);
+        var-kept = λ x v. absurd-bool v refl;
+        ex-new = λ d a b t y. absurd-bool t refl;
+        reads = λ v d. refl;
+        asks = λ v d. refl;
+        weights = λ a b. refl;
+        holds-ok = inl refl;
+        room = λ v. go v (eqb w v) refl;
+      }
+    where
+      go : (v : ℕ) (t : Bool) → eqb w v ≡ t → booked s v + bit (goesTo v (message s 0)) + cond t 1 0 ≤ freeCells 𝓜 s v + bit (goesTo v (message s 0)) + cond t 0 0
+      go v true t =
+          let e = eqb-true w v t in
+          subst (λ (y : ℕ). booked s y + bit (goesTo y (message s 0)) + 1 ≤ freeCells 𝓜 s y + bit (goesTo y (message s 0)) + 0) e (omega arith)
+      go v false t = omega (arith, I .facts .room v)
+
+  pub new-stays : (w : ℕ) → Invariant 𝓜 (new 𝓜 s w .after)
+  unfolding new
+  new-stays w =
+      let c = lowestFreeCell 𝓜 s w in
+      after-checked (Invariant 𝓜) s (newRefusals 𝓜 s w) (record { outcome = Done c; after = putCell 𝓜 s w c Var }) I
+      (λ p. let u = worker-used w (search) in let r = has-room 𝓜 L s (I .facts) w (search) in let f = free-cell 𝓜 L s (I .facts) w (omega arith) in stays-cell 𝓜 L s (I .facts) I w c Free Var (new-moves w c (u .0) r (f .0) (f .1)) (record { read-ok = inl refl; answer-ok = inl refl; known-ok = inr tt }))
+
+  -- ---- set and bind: a VAR gets its value, or becomes a REF
+  var-moves : (w c : ℕ) (k : Kind) → cell 𝓜 s w c ≡ Var → CellFact 𝓜 (next 𝓜 s (cellMove 𝓜 s w c Var k 0 (message s 0) (message s 0))) w k → (exported 𝓜 s w c ≡ true → VarBecomes 𝓜 s w k) → isEx k ≡ false → isFree k ≡ false → CellMoves 𝓜 L s w c Var k 0 (message s 0) (message s 0)
+  var-moves w c k q ok becomes ne nf =
+      let inside = cell-inside 𝓜 s w c (ap isFree q) in
+      record {
+        w-in = inside .0;
+        c-in = inside .1;
+        i-in = L .slots-some;
+        old-cell = q;
+        old-message = refl;
+        cell-ok = ok;
+        message-ok = inl refl;
+        busy-kept = λ b v. absurd-bool refl v;
+        var-kept = λ x v. becomes x;
+        ex-new = λ d a b t y. absurd (no-names k ne a b t);
+        reads = λ v d. ap (λ (z : Bool). bit (readsFor v d (message s 0)) + cond (eqb w v && eqb c d) (bit z) 0) (sym (no-reading k ne));
+        asks = λ v d. ap (λ (z : Bool). bit (asksFor v d (message s 0)) + cond (eqb w v && eqb c d) (bit z) 0) (sym (no-asking k ne));
+        weights = λ a b. omega (arith, no-weight k ne a b);
+        holds-ok = inl refl;
+        room = λ v. let e = ap bit nf in zeroes v (eqb w v) (bit (isFree k)) e;
+      }
+    where
+      no-names : (k : Kind) → isEx k ≡ false → (a b : ℕ) → exNames a b k ≡ true → ⊥
+      no-names Free e a b t = absurd-bool t refl
+      no-names Var e a b t = absurd-bool t refl
+      no-names (Val n) e a b t = absurd-bool t refl
+      no-names (Ref d) e a b t = absurd-bool t refl
+      no-names (Ex o y n st z) e a b t = absurd-bool refl e
+
+      no-reading : (k : Kind) → isEx k ≡ false → isReading k ≡ false
+      no-reading Free e = refl
+      no-reading Var e = refl
+      no-reading (Val n) e = refl
+      no-reading (Ref d) e = refl
+      no-reading (Ex o y n st z) e = absurd-bool refl e
+
+      no-asking : (k : Kind) → isEx k ≡ false → isAsking k ≡ false
+      no-asking Free e = refl
+      no-asking Var e = refl
+      no-asking (Val n) e = refl
+      no-asking (Ref d) e = refl
+      no-asking (Ex o y n st z) e = absurd-bool refl e
+
+      no-weight : (k : Kind) → isEx k ≡ false → (a b : ℕ) → cellHolds 𝓜 s a b k ≡ 0
+      no-weight Free e a b = refl
+      no-weight Var e a b = refl
+      no-weight (Val n) e a b = refl
+      no-weight (Ref d) e a b = refl
+      no-weight (Ex o y n st z) e a b = absurd-bool refl e
+
+      zeroes : (v : ℕ) (t : Bool) (n : ℕ) → n ≡ 0 → booked s v + bit (goesTo v (message s 0)) + cond t 0 0 ≤ freeCells 𝓜 s v + bit (goesTo v (message s 0)) + cond t n 0
+      zeroes v true n e = omega (arith, I .facts .room v)
+      zeroes v false n e = omega (arith, I .facts .room v)
+
+  pub set-stays : (w c n : ℕ) → Invariant 𝓜 (set 𝓜 s w c n .after)
+  unfolding set
+  set-stays w c n =
+      after-checked (Invariant 𝓜) s (setRefusals 𝓜 s w c) (record { outcome = Done 0; after = putCell 𝓜 s w c (Val n) }) I
+      (λ p. let u = worker-used w (search) in let q = var-is (cell 𝓜 s w c) (not-false (search)) in stays-cell 𝓜 L s (I .facts) I w c Var (Val n) (var-moves w c (Val n) q (u .0) (λ x. stays refl) refl refl) (record { read-ok = inl refl; answer-ok = inl refl; known-ok = inr tt }))
+
+  pub bind-stays : (w c x : ℕ) → Invariant 𝓜 (bind 𝓜 s w c x .after)
+  unfolding bind endKind
+  bind-stays w c x =
+      let y = end 𝓜 s w x in
+      after-checked (Invariant 𝓜) s (bindRefusals 𝓜 s w c x) (record { outcome = Done 0; after = putCell 𝓜 s w c (Ref y) }) I
+      (λ p. let u = worker-used w (search) in let q = var-is (cell 𝓜 s w c) (not-false (search)) in let ex : isEx (cell 𝓜 s w y) ≡ true = not-false (search) in let guarded : (exported 𝓜 s w c && not (safe 𝓜 s w (cell 𝓜 s w y))) ≡ false = search in stays-cell 𝓜 L s (I .facts) I w c Var (Ref y) (var-moves w c (Ref y) q (u .0, ref-ex q ex) (λ e. bound y refl (safe-of (exported 𝓜 s w c) (safe 𝓜 s w (cell 𝓜 s w y)) e guarded)) refl refl) (record { read-ok = inl refl; answer-ok = inl refl; known-ok = inr tt }))
+    where
+      safe-of : (a b : Bool) → a ≡ true → (a && not b) ≡ false → b ≡ true
+      safe-of true true e g = refl
+      safe-of true false e g = absurd-bool refl g
+      safe-of false b e g = absurd-bool e refl
+
+      ref-ex : cell 𝓜 s w c ≡ Var → isEx (cell 𝓜 s w (end 𝓜 s w x)) ≡ true → isEx (cell 𝓜 (next 𝓜 s (cellMove 𝓜 s w c Var (Ref (end 𝓜 s w x)) 0 (message s 0) (message s 0))) w (end 𝓜 s w x)) ≡ true
+      ref-ex q ex =
+          let inside = cell-inside 𝓜 s w c (ap isFree q) in
+          let placed : Placed 𝓜 s (cellMove 𝓜 s w c Var (Ref (end 𝓜 s w x)) 0 (message s 0) (message s 0)) = record { w-in = inside .0; c-in = inside .1; o-in = L .workers-some; e-in = L .entries-some; i-in = L .slots-some; old-cell = q; old-entry = refl; old-message = refl } in
+          ap isEx (cell-there 𝓜 s (cellMove 𝓜 s w c Var (Ref (end 𝓜 s w x)) 0 (message s 0) (message s 0)) (I .facts .sized) placed w (end 𝓜 s w x) (λ a b. absurd-bool ex (ap isEx (ap (cell 𝓜 s w) (sym b) ∙ q))))
+          ∙ ex
+
+  -- ---- a cell that is not busy is freed, its weight, if it has one, going into the slot i
+  pub record Frees (w c : ℕ) (k₀ : Kind) (i : ℕ) (m₀ m : Message) : Type 0 where
+    pub i-in : i < 𝓜 .slots
+    pub old-cell : cell 𝓜 s w c ≡ k₀
+    pub not-free : isFree k₀ ≡ false
+    pub idle : busy 𝓜 s w c ≡ false
+    pub old-message : message s i ≡ m₀
+    pub message-ok : (m ≡ m₀) ⊎ MessageFact 𝓜 (next 𝓜 s (cellMove 𝓜 s w c k₀ Free i m₀ m)) m
+    pub reads : (v d : ℕ) → bit (readsFor v d m) ≡ bit (readsFor v d m₀)
+    pub asks : (v d : ℕ) → bit (asksFor v d m) ≡ bit (asksFor v d m₀)
+    pub weights : (a b : ℕ) → cellHolds 𝓜 s a b k₀ + messageHolds 𝓜 s a b m₀ ≡ messageHolds 𝓜 s a b m
+    pub holds-ok : (m ≡ m₀) ⊎ ((a b : ℕ) → messageHolds 𝓜 (next 𝓜 s (cellMove 𝓜 s w c k₀ Free i m₀ m)) a b m ≡ messageHolds 𝓜 s a b m)
+    pub room : (v : ℕ) → booked s v + bit (goesTo v m) ≤ freeCells 𝓜 s v + bit (goesTo v m₀)
+
+  frees : (w c : ℕ) (k₀ : Kind) (i : ℕ) (m₀ m : Message) → Frees w c k₀ i m₀ m → CellMoves 𝓜 L s w c k₀ Free i m₀ m
+  frees w c k₀ i m₀ m f =
+      let inside = cell-inside 𝓜 s w c (ap isFree (f .old-cell) ∙ f .not-free) in
+      let quiet = idle-parts 𝓜 s w c (f .idle) in
+      let no-read : isReading k₀ ≡ false = sym (ap isReading (f .old-cell)) ∙ quiet .2 in
+      let no-ask : isAsking k₀ ≡ false = sym (ap isAsking (f .old-cell)) ∙ quiet .3 in
+      record {
+        w-in = inside .0;
+        c-in = inside .1;
+        i-in = f .i-in;
+        old-cell = f .old-cell;
+        old-message = f .old-message;
+        cell-ok = tt;
+        message-ok = f .message-ok;
+        busy-kept = λ b v. absurd-bool b (f .idle);
+        var-kept = λ x v. absurd-bool x (quiet .0);
+        ex-new = λ d a b t y. absurd-bool t refl;
+        reads = λ v d. omega (arith, f .reads v d, ap (λ (z : Bool). cond (eqb w v && eqb c d) (bit z) 0) no-read);
+        asks = λ v d. omega (arith, f .asks v d, ap (λ (z : Bool). cond (eqb w v && eqb c d) (bit z) 0) no-ask);
+        weights = λ a b. omega (arith, f .weights a b);
+        holds-ok = f .holds-ok;
+        room = λ v. omega (arith, f .room v, ap (λ (z : Bool). cond (eqb w v) (bit z) 0) (f .not-free), zero-cond (eqb w v));
+      }
+
+  -- nothing is sent
+  frees-only : (w c : ℕ) (k₀ : Kind) → cell 𝓜 s w c ≡ k₀ → isFree k₀ ≡ false → busy 𝓜 s w c ≡ false → ((a b : ℕ) → cellHolds 𝓜 s a b k₀ ≡ 0) → Invariant 𝓜 (putCell 𝓜 s w c Free)
+  frees-only w c k₀ q nf idle light =
+      stays-cell 𝓜 L s (I .facts) I w c k₀ Free
+      (frees w c k₀ 0 (message s 0) (message s 0)
+      (record {
+        i-in = L .slots-some;
+        old-cell = q;
+        not-free = nf;
+        idle = idle;
+        old-message = refl;
+        message-ok = inl refl;
+        reads = λ v d. refl;
+        asks = λ v d. refl;
+        weights = λ a b. omega (arith, light a b);
+        holds-ok = inl refl;
+        room = λ v. omega (arith, I .facts .room v);
+      }))
+      (record { read-ok = inl refl; answer-ok = inl refl; known-ok = inr tt })
+
+  -- an EX's whole weight goes into an empty slot, as a Reference or as a Release
+  frees-sent : (w c o e n : ℕ) (st : Status) (a : Bool) (m : Message) → cell 𝓜 s w c ≡ Ex o e n st a → busy 𝓜 s w c ≡ false → leb (𝓜 .slots) (lowestEmptySlot 𝓜 s) ≡ false → Sends 𝓜 s o e n m → ((v : ℕ) → booked s v + bit (goesTo v m) ≤ freeCells 𝓜 s v + 0) → Invariant 𝓜 (putMessage (putCell 𝓜 s w c Free) (lowestEmptySlot 𝓜 s) m)
+  frees-sent w c o e n st a m q idle full z room =
+      let slot = empty-slot 𝓜 L s (I .facts) full in
+      stays-cell-message 𝓜 L s (I .facts) I w c (Ex o e n st a) Free (lowestEmptySlot 𝓜 s) Empty m
+      (frees w c (Ex o e n st a) (lowestEmptySlot 𝓜 s) Empty m
+      (record {
+        i-in = slot .0;
+        old-cell = q;
+        not-free = refl;
+        idle = idle;
+        old-message = slot .1;
+        message-ok = inr (z .ok (next 𝓜 s (cellMove 𝓜 s w c (Ex o e n st a) Free (lowestEmptySlot 𝓜 s) Empty m)) refl);
+        reads = λ v d. ap bit (z .no-read v d);
+        asks = λ v d. ap bit (z .no-ask v d);
+        weights = λ x y. omega (arith, z .holds s x y);
+        holds-ok = inr (λ x y. z .holds (next 𝓜 s (cellMove 𝓜 s w c (Ex o e n st a) Free (lowestEmptySlot 𝓜 s) Empty m)) x y ∙ sym (z .holds s x y));
+        room = room;
+      }))
+      (record { read-ok = inr (0, z .no-ahead (next 𝓜 s (cellMove 𝓜 s w c (Ex o e n st a) Free (lowestEmptySlot 𝓜 s) Empty m))); answer-ok = inr (z .no-answer (next 𝓜 s (cellMove 𝓜 s w c (Ex o e n st a) Free (lowestEmptySlot 𝓜 s) Empty m))); known-ok = inr tt })
+
+  -- "transfer"
+  pub transfer-stays : (w c to : ℕ) → Invariant 𝓜 (transfer 𝓜 s w c to .after)
+  unfolding transfer
+  transfer-stays w c to =
+      after-checked (Invariant 𝓜) s (transferRefusals 𝓜 s w c to) (record { outcome = Done (lowestEmptySlot 𝓜 s); after = putMessage (putCell 𝓜 s w c Free) (lowestEmptySlot 𝓜 s) (sendsWhole 𝓜 s to (cell 𝓜 s w c)) }) I
+      (λ p. let u = worker-used to (search) in let x = the-ex (cell 𝓜 s w c) (not-false (search)) in let r = has-room 𝓜 L s (I .facts) to (search) in subst (λ (k : Kind). Invariant 𝓜 (putMessage (putCell 𝓜 s w c Free) (lowestEmptySlot 𝓜 s) (sendsWhole 𝓜 s to k))) (sym (x .is)) (frees-sent w c (x .owner) (x .entry) (x .weight) (x .status) (x .asking) (Reference to (x .owner) (x .entry) (x .weight)) (x .is) (search) (search) (reference-sends to (x .owner) (x .entry) (x .weight) (u .0) (weight-some w c (x .owner) (x .entry) (x .weight) (x .status) (x .asking) (x .is))) (room-sent 𝓜 L s (I .facts) to (x .owner) (x .entry) (x .weight) r)))
+
+  -- "drop"
+  pub drop-stays : (w c : ℕ) → Invariant 𝓜 (drop 𝓜 s w c .after)
+  unfolding drop
+  drop-stays w c =
+      after-checked (Invariant 𝓜) s (dropRefusals 𝓜 s w c) (dropped (cell 𝓜 s w c)) I
+      (λ p. go (cell 𝓜 s w c) refl (search) (search) (search))
+    where
+      dropped : Kind → Result
+      dropped k =
+          cond (isEx k) (record { outcome = Done (lowestEmptySlot 𝓜 s); after = putMessage (putCell 𝓜 s w c Free) (lowestEmptySlot 𝓜 s) (releases 𝓜 s k) })
+          (record { outcome = Done 64; after = putCell 𝓜 s w c Free })
+
+      go : (k : Kind) → cell 𝓜 s w c ≡ k → isFree (cell 𝓜 s w c) ≡ false → busy 𝓜 s w c ≡ false → (isEx (cell 𝓜 s w c) && leb (𝓜 .slots) (lowestEmptySlot 𝓜 s)) ≡ false → Invariant 𝓜 (dropped k .after)
+      go Free q nf idle full = absurd-bool (ap isFree q) nf
+      go Var q nf idle full = frees-only w c Var q refl idle (λ a b. refl)
+      go (Val n) q nf idle full = frees-only w c (Val n) q refl idle (λ a b. refl)
+      go (Ref d) q nf idle full = frees-only w c (Ref d) q refl idle (λ a b. refl)
+      go (Ex o e n st a) q nf idle full =
+          frees-sent w c o e n st a (Release o e n) q idle
+          (subst (λ (k : Kind). (isEx k && leb (𝓜 .slots) (lowestEmptySlot 𝓜 s)) ≡ false) q full)
+          (release-sends o e n (weight-some w c o e n st a q))
+          (room-same 𝓜 L s (I .facts))

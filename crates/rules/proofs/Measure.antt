@@ -1,0 +1,180 @@
+-- What is still to be delivered, measured by a rank of the entries: at most B, and lower after each delivery. Assumes nothing.
+use Prim.Native.Nat.{ℕ, zero, suc, _+_, _*_, _/_, _%_, _<_, _≤_}
+use native.Mathlib.Omega.{arith}
+use mathlib.Core.Path.{_≡_, refl, sym, ap, ap₂, subst, _∙_}
+use mathlib.Core.Bool.{Bool, true, false, _&&_}
+use mathlib.Core.Logic.{_⊎_, inl, inr}
+use lib.Dec.{leb}
+use Rattle.numbers.specs.Below.{bit, countBelow}
+use Rattle.numbers.specs.Lists.{total}
+use Rattle.numbers.specs.Tests.{absurd-bool, or-else}
+use Rattle.numbers.specs.BelowLaws.{sum-mono}
+use Rattle.numbers.specs.ListLaws.{total-mono}
+use Rattle.tables.specs.declared.Slot.{Slot}
+use Rattle.tables.specs.declared.Status.{Status}
+use Rattle.tables.specs.declared.Status.the-variants.{Idle, Reading, Known}
+use Rattle.tables.specs.declared.Kind.{Kind}
+use Rattle.tables.specs.declared.Kind.the-variants.{Free, Var, Val, Ref, Ex}
+use Rattle.tables.specs.declared.Holding.{Holding}
+use Rattle.tables.specs.declared.Place.{Place}
+use Rattle.tables.specs.declared.Message.{Message}
+use Rattle.tables.specs.declared.Message.the-variants.{Empty, Reference, Release, Read, Answer, Ask, Supply}
+use Rattle.tables.specs.Machine.{Machine, Tables}
+use Rattle.tables.specs.Parts.{isFree, isLive}
+use Rattle.tables.specs.Look.{cell, entry, liveEntries, message, putCell, putEntry, putMessage}
+use Rattle.rules.specs.Calls.{costs, B}
+use Rattle.rules.specs.Machines.{Laws}
+use Rattle.rules.specs.Facts.{Facts, EndsIn}
+use Rattle.rules.proofs.Inside.{cell-inside}
+use Rattle.rules.proofs.Derived.{LivePlace}
+use Rattle.rules.specs.Change.{Change, next, Keeps, Carries, Ranked, Invariant}
+use Rattle.rules.proofs.Next.{spot, cell-here, cell-there, entry-here, slots-total}
+use Rattle.rules.proofs.Onward.{ends-kept}
+use Rattle.rules.proofs.Rank.{was-or-new}
+use Rattle.rules.proofs.Stays.{invariant-kept, rank-kept}
+use Rattle.rules.proofs.Count.{standsAt, standing, standing-live}
+use Rattle.rules.proofs.Moves.{cellMove, entryMove, put-cell-message, put-entry-message, put-message, CellMoves, cell-keeps, ExMoves, ex-keeps, EntryMoves, entry-keeps}
+
+-- what a message may still take: a Read one for itself, and one for each live entry that stands at most as high as its own
+abbrev pub spends : Machine → Tables → (ℕ → ℕ → ℕ) → Message → ℕ
+spends 𝓜 s r Empty = 0
+spends 𝓜 s r (Reference to o e w) = 1
+spends 𝓜 s r (Release o e w) = 1
+spends 𝓜 s r (Read rd c o e) = standing 𝓜 s r (r o e) + 1
+spends 𝓜 s r (Answer rd c v) = 1
+spends 𝓜 s r (Ask a c o e) = 2
+spends 𝓜 s r (Supply a c w) = 1
+
+unfoldable pub measure : Machine → Tables → (ℕ → ℕ → ℕ) → ℕ
+measure 𝓜 s r = total (λ x. spends 𝓜 s r (x .message)) (s .slots)
+
+pub measure-bound : (𝓜 : Machine) (L : Laws 𝓜) (s : Tables) (F : Facts 𝓜 s) (r : ℕ → ℕ → ℕ) → measure 𝓜 s r ≤ B 𝓜 s
+unfolding measure B
+measure-bound 𝓜 L s F r =
+    total-mono (λ (x : Slot). spends 𝓜 s r (x .message)) (λ (x : Slot). costs 𝓜 s (liveEntries s) (x .message)) (s .slots) (record { message = Empty })
+    (λ k l. le (message s k))
+  where
+    le : (m : Message) → spends 𝓜 s r m ≤ costs 𝓜 s (liveEntries s) m
+    le Empty = omega arith
+    le (Reference to o e w) = omega arith
+    le (Release o e w) = omega arith
+    le (Read rd c o e) = omega (arith, standing-live 𝓜 L s (F .sized) r (r o e))
+    le (Answer rd c v) = omega arith
+    le (Ask a c o e) = omega arith
+    le (Supply a c w) = omega arith
+
+-- ---- how a delivery changes a cell: an EX that reads goes on reading or is known, and what is known stays so
+abbrev pub StatusOn : Status → Status → Type 0
+StatusOn Idle Idle = Unit {0}
+StatusOn Idle Reading = Unit {0}
+StatusOn Idle (Known u) = Unit {0}
+StatusOn Reading Idle = ⊥
+StatusOn Reading Reading = Unit {0}
+StatusOn Reading (Known u) = Unit {0}
+StatusOn (Known v) Idle = ⊥
+StatusOn (Known v) Reading = ⊥
+StatusOn (Known v) (Known u) = v ≡ u
+
+abbrev pub ExOn : ℕ → ℕ → Status → Kind → Type 0
+ExOn o e st Free = ⊥
+ExOn o e st Var = ⊥
+ExOn o e st (Val n) = ⊥
+ExOn o e st (Ref d) = ⊥
+ExOn o e st (Ex o′ e′ n st′ a) = (o′ ≡ o) × (e′ ≡ e) × StatusOn st st′
+
+abbrev pub KindOn : Kind → Kind → Type 0
+KindOn Free k = Unit {0}
+KindOn Var k = Unit {0}
+KindOn (Val n) k = Unit {0}
+KindOn (Ref d) k = Unit {0}
+KindOn (Ex o e n st a) k = ExOn o e st k
+
+pub status-same : (st : Status) → StatusOn st st
+status-same Idle = tt
+status-same Reading = tt
+status-same (Known v) = refl
+
+pub kind-same : (k : Kind) → KindOn k k
+kind-same Free = tt
+kind-same Var = tt
+kind-same (Val n) = tt
+kind-same (Ref d) = tt
+kind-same (Ex o e n st a) = (refl, refl, status-same st)
+
+-- a delivery: the invariant stays, by the same rank, and less is left to be delivered
+pub record Arrived (𝓜 : Machine) (s : Tables) (r : ℕ → ℕ → ℕ) (s′ : Tables) : Type 0 where
+  pub invariant : Invariant 𝓜 s′
+  pub ranked : Ranked 𝓜 s′ r
+  pub lower : measure 𝓜 s′ r < measure 𝓜 s r
+  pub on : (w c : ℕ) → KindOn (cell 𝓜 s w c) (cell 𝓜 s′ w c)
+  pub ends : (p : Place) (v : ℕ) → LivePlace 𝓜 s′ p → EndsIn 𝓜 s p v → EndsIn 𝓜 s′ p v
+
+module _ (𝓜 : Machine) (L : Laws 𝓜) (s : Tables) (I : Invariant 𝓜 s) (r : ℕ → ℕ → ℕ) (R : Ranked 𝓜 s r) where
+  -- where a change makes no entry, no more of them stand at a rank
+  fewer : (h : Change) → Keeps 𝓜 s h → (isLive (h .x) ≡ true → isLive (h .x₀) ≡ true) → (ρ : ℕ) → standing 𝓜 (next 𝓜 s h) r ρ ≤ standing 𝓜 s r ρ
+  unfolding standing
+  fewer h K old ρ =
+      sum-mono (𝓜 .workers * 𝓜 .entries) (λ j. bit (standsAt 𝓜 (next 𝓜 s h) r ρ j)) (λ j. bit (standsAt 𝓜 s r ρ j))
+      (λ j l. le (isLive (entry 𝓜 (next 𝓜 s h) (j / 𝓜 .entries) (j % 𝓜 .entries))) (isLive (entry 𝓜 s (j / 𝓜 .entries) (j % 𝓜 .entries))) (leb (r (j / 𝓜 .entries) (j % 𝓜 .entries)) ρ) (λ t. was (j / 𝓜 .entries) (j % 𝓜 .entries) t (was-or-new 𝓜 s h (I .facts) K r R (j / 𝓜 .entries) (j % 𝓜 .entries) t)))
+    where
+      was : (a b : ℕ) → isLive (entry 𝓜 (next 𝓜 s h) a b) ≡ true → (isLive (entry 𝓜 s a b) ≡ true) ⊎ ((h .o ≡ a) × (h .e ≡ b) × (isLive (h .x₀) ≡ false)) → isLive (entry 𝓜 s a b) ≡ true
+      was a b t (inl l) = l
+      was a b t (inr q) =
+          let here = entry-here 𝓜 s h (I .facts .sized) (K .placed) in
+          let same = ap (λ (u : ℕ). entry 𝓜 (next 𝓜 s h) u b) (sym (q .0)) ∙ ap (entry 𝓜 (next 𝓜 s h) (h .o)) (sym (q .1)) ∙ here in
+          absurd-bool (old (sym (ap isLive same) ∙ t)) (q .2)
+
+      le : (a b c : Bool) → (a ≡ true → b ≡ true) → bit (a && c) ≤ bit (b && c)
+      le true b c f = subst (λ (z : Bool). bit c ≤ bit (z && c)) (sym (f refl)) (omega arith)
+      le false b c f = omega arith
+
+  -- a change whose message takes less than the one before it
+  pub arrived : (h : Change) → (K : Keeps 𝓜 s h) → Carries 𝓜 s h → (isLive (h .x) ≡ true → isLive (h .x₀) ≡ true) → spends 𝓜 (next 𝓜 s h) r (h .m) < spends 𝓜 (next 𝓜 s h) r (h .m₀) → KindOn (h .k₀) (h .k) → Arrived 𝓜 s r (next 𝓜 s h)
+  unfolding measure
+  arrived h K C old less on =
+      record {
+        invariant = invariant-kept 𝓜 s h I K C;
+        ranked = rank-kept 𝓜 s h (I .facts) K r R old;
+        lower =
+            omega (
+              arith,
+              slots-total 𝓜 s h (I .facts .sized) (K .placed) (spends 𝓜 (next 𝓜 s h) r),
+              total-mono (λ (x : Slot). spends 𝓜 (next 𝓜 s h) r (x .message)) (λ (x : Slot). spends 𝓜 s r (x .message)) (s .slots) (record { message = Empty }) (λ k l. le (message s k)),
+            );
+        on = λ w c. moves w c (spot (h .w) (h .c) w c);
+        ends = ends-kept 𝓜 s h (I .facts) K;
+      }
+    where
+      moves : (w c : ℕ) → ((h .w ≡ w) × (h .c ≡ c)) ⊎ (h .w ≡ w → h .c ≡ c → ⊥) → KindOn (cell 𝓜 s w c) (cell 𝓜 (next 𝓜 s h) w c)
+      moves w c (inl q) =
+          let was : cell 𝓜 s w c ≡ h .k₀ = ap₂ (cell 𝓜 s) (sym (q .0)) (sym (q .1)) ∙ K .placed .old-cell in
+          let now : cell 𝓜 (next 𝓜 s h) w c ≡ h .k = ap₂ (cell 𝓜 (next 𝓜 s h)) (sym (q .0)) (sym (q .1)) ∙ cell-here 𝓜 s h (I .facts .sized) (K .placed) in
+          subst (λ (y : Kind). KindOn y (cell 𝓜 (next 𝓜 s h) w c)) (sym was) (subst (KindOn (h .k₀)) (sym now) on)
+      moves w c (inr f) =
+          subst (KindOn (cell 𝓜 s w c)) (sym (cell-there 𝓜 s h (I .facts .sized) (K .placed) w c f)) (kind-same (cell 𝓜 s w c))
+
+      le : (m : Message) → spends 𝓜 (next 𝓜 s h) r m ≤ spends 𝓜 s r m
+      le Empty = omega arith
+      le (Reference to o e w) = omega arith
+      le (Release o e w) = omega arith
+      le (Read rd c o e) = omega (arith, fewer h K old (r o e))
+      le (Answer rd c v) = omega arith
+      le (Ask a c o e) = omega arith
+      le (Supply a c w) = omega arith
+
+  -- ---- over the rules' stores
+  pub arrived-cell : (w c : ℕ) (k₀ k : Kind) (i : ℕ) (m₀ m : Message) → CellMoves 𝓜 L s w c k₀ k i m₀ m → Carries 𝓜 s (cellMove 𝓜 s w c k₀ k i m₀ m) → spends 𝓜 (next 𝓜 s (cellMove 𝓜 s w c k₀ k i m₀ m)) r m < spends 𝓜 (next 𝓜 s (cellMove 𝓜 s w c k₀ k i m₀ m)) r m₀ → KindOn k₀ k → Arrived 𝓜 s r (putMessage (putCell 𝓜 s w c k) i m)
+  arrived-cell w c k₀ k i m₀ m M C less on =
+      subst (Arrived 𝓜 s r) (put-cell-message 𝓜 L s w c k₀ k i m₀ m (M .w-in) (M .c-in))
+      (arrived (cellMove 𝓜 s w c k₀ k i m₀ m) (cell-keeps 𝓜 L s (I .facts) w c k₀ k i m₀ m M) C (λ t. t) less on)
+
+  pub arrived-ex : (w c o e n₀ n : ℕ) (st₀ st : Status) (a₀ a : Bool) (i : ℕ) (m₀ m : Message) → ExMoves 𝓜 L s (I .facts) w c o e n₀ n st₀ st a₀ a i m₀ m → Carries 𝓜 s (cellMove 𝓜 s w c (Ex o e n₀ st₀ a₀) (Ex o e n st a) i m₀ m) → spends 𝓜 (next 𝓜 s (cellMove 𝓜 s w c (Ex o e n₀ st₀ a₀) (Ex o e n st a) i m₀ m)) r m < spends 𝓜 (next 𝓜 s (cellMove 𝓜 s w c (Ex o e n₀ st₀ a₀) (Ex o e n st a) i m₀ m)) r m₀ → StatusOn st₀ st → Arrived 𝓜 s r (putMessage (putCell 𝓜 s w c (Ex o e n st a)) i m)
+  arrived-ex w c o e n₀ n st₀ st a₀ a i m₀ m M C less on =
+      let inside = cell-inside 𝓜 s w c (ap isFree (M .old-cell)) in
+      subst (Arrived 𝓜 s r) (put-cell-message 𝓜 L s w c (Ex o e n₀ st₀ a₀) (Ex o e n st a) i m₀ m (inside .0) (inside .1))
+      (arrived (cellMove 𝓜 s w c (Ex o e n₀ st₀ a₀) (Ex o e n st a) i m₀ m) (ex-keeps 𝓜 L s (I .facts) w c o e n₀ n st₀ st a₀ a i m₀ m M) C (λ t. t) less (refl, refl, on))
+
+  pub arrived-entry : (o e : ℕ) (x₀ x : Holding) (i : ℕ) (m₀ m : Message) → EntryMoves 𝓜 L s (I .facts) o e x₀ x i m₀ m → Carries 𝓜 s (entryMove 𝓜 s o e x₀ x i m₀ m) → (isLive x ≡ true → isLive x₀ ≡ true) → spends 𝓜 (next 𝓜 s (entryMove 𝓜 s o e x₀ x i m₀ m)) r m < spends 𝓜 (next 𝓜 s (entryMove 𝓜 s o e x₀ x i m₀ m)) r m₀ → Arrived 𝓜 s r (putMessage (putEntry 𝓜 s o e x) i m)
+  arrived-entry o e x₀ x i m₀ m M C old less =
+      subst (Arrived 𝓜 s r) (put-entry-message 𝓜 L s o e x₀ x i m₀ m (M .o-in) (M .e-in))
+      (arrived (entryMove 𝓜 s o e x₀ x i m₀ m) (entry-keeps 𝓜 L s (I .facts) o e x₀ x i m₀ m M) C old less (kind-same (cell 𝓜 s 0 0)))

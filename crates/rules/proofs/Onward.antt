@@ -1,0 +1,215 @@
+-- What a change keeps of chains: a step from an entry that is live before and after stays, an end that is a value stays, and a new step leads
+-- from a VAR that was bound to a safe EX, or from a new entry. Assumes nothing.
+use Prim.Native.Nat.{ℕ, zero, suc, _+_, _<_, _≤_}
+use native.Mathlib.Decide.{ℕ-discrete}
+use native.Mathlib.Omega.{arith}
+use mathlib.Core.Path.{_≡_, refl, sym, ap, subst, _∙_}
+use mathlib.Core.Bool.{Bool, true, false, _||_}
+use mathlib.Core.Logic.{_⊎_, inl, inr, _≢_}
+use lib.Dec.{eqb}
+use borrow.Author.Tests.{eq-eqb}
+use Rattle.numbers.specs.Tests.{absurd-bool, and-i}
+use Rattle.tables.specs.declared.Status.{Status}
+use Rattle.tables.specs.declared.Status.the-variants.{Idle, Reading, Known}
+use Rattle.tables.specs.declared.Kind.{Kind}
+use Rattle.tables.specs.declared.Kind.the-variants.{Free, Var, Val, Ref, Ex}
+use Rattle.tables.specs.declared.Holding.{Holding}
+use Rattle.tables.specs.declared.Holding.the-variants.{Unused, Live}
+use Rattle.tables.specs.declared.Message.{Message}
+use Rattle.tables.specs.declared.Message.the-variants.{Empty, Reference, Release, Read, Answer, Ask, Supply}
+use Rattle.tables.specs.declared.Place.{Place}
+use Rattle.tables.specs.declared.Place.the-variants.{Nowhere, At}
+use Rattle.tables.specs.Machine.{Machine, Tables}
+use Rattle.tables.specs.Parts.{isFree, isVar, isVal, isEx, isReading, namedBy, isLive, isTainted, entryNames}
+use Rattle.tables.specs.Look.{cell, entry, end, endKind, safe, exported, busy, message}
+use Rattle.rules.specs.Sound.{readsFor, follow, through}
+use Rattle.rules.specs.Refusals.{entryEnd}
+use Rattle.rules.specs.Deliver.{cellOf}
+use Rattle.rules.specs.Facts.{CellFact, Facts, ahead, ReadAhead, Reads, EndsIn, StatusFact, KnownFact, AnswerFact}
+use Rattle.rules.proofs.Named.{the-live, IsLive}
+use Rattle.rules.proofs.Busy.{exported-by, busy-exported, busy-reading}
+use Rattle.rules.proofs.Derived.{live-fact, reading-cell, LivePlace, named-place, follow-place, ahead-place}
+use Rattle.rules.specs.Change.{Change, next, seen, Placed, VarBecomes, stays, bound, Keeps}
+use Rattle.rules.proofs.Next.{spot, cell-here, cell-there, message-here, message-there}
+use Rattle.rules.proofs.Kept.{same-by, unseen-named, seen-ref, seen-val, seen-kept, reading-seen, referred-seen, live-kept, end-ref, end-self, facts-kept}
+
+pub nowhere-at : {X : Type 0} {o e : ℕ} → _≡_ {A = Place} Nowhere (At o e) → X
+nowhere-at q = let z : _≡_ {A = ℕ} 0 1 = cc in absurd (omega arith)
+
+-- from nowhere no step leads on
+pub ahead-nowhere : (𝓜 : Machine) (s : Tables) (n : ℕ) → ahead 𝓜 s n Nowhere ≡ Nowhere
+unfolding ahead follow
+ahead-nowhere 𝓜 s zero = refl
+ahead-nowhere 𝓜 s (suc n) = ahead-nowhere 𝓜 s n
+
+-- a live entry, taken apart, with what a step from it says
+pub follow-live : (𝓜 : Machine) (s : Tables) (a b d n : ℕ) (t : Bool) → entry 𝓜 s a b ≡ Live d n t → follow 𝓜 s (At a b) ≡ namedBy (endKind 𝓜 s a d)
+unfolding follow
+follow-live 𝓜 s a b d n t q = ap (through 𝓜 s a) q
+
+-- where a step leads somewhere, it is from a live entry
+pub follow-from : (𝓜 : Machine) (s : Tables) (a b o e : ℕ) → follow 𝓜 s (At a b) ≡ At o e → IsLive (entry 𝓜 s a b)
+unfolding follow
+follow-from 𝓜 s a b o e q = go (entry 𝓜 s a b) refl q
+  where
+    go : (x : Holding) → entry 𝓜 s a b ≡ x → through 𝓜 s a x ≡ At o e → IsLive (entry 𝓜 s a b)
+    go Unused i p = nowhere-at p
+    go (Live d n t) i p = record { cell = d; weight = n; tainted = t; is = i }
+
+module _ (𝓜 : Machine) (s : Tables) (h : Change) (F : Facts 𝓜 s) (K : Keeps 𝓜 s h) where
+  F′ : Facts 𝓜 (next 𝓜 s h)
+  F′ = facts-kept 𝓜 s h F K
+
+  looks : (v d : ℕ) → exported 𝓜 s v d ≡ true → isVar (cell 𝓜 s v d) ≡ false → seen (cell 𝓜 (next 𝓜 s h) v d) ≡ seen (cell 𝓜 s v d)
+  looks v d x nv = seen-kept 𝓜 s h F K v d (busy-exported 𝓜 s v d x) nv
+
+  -- ---- the end of an exported cell, before and after
+  pub data EndKept (v d : ℕ) : Type 0 where
+    -- the same value, the same reference, or a VAR that is still one, or has its value
+    as-before : namedBy (endKind 𝓜 (next 𝓜 s h) v d) ≡ namedBy (endKind 𝓜 s v d) → ((n : ℕ) → endKind 𝓜 s v d ≡ Val n → endKind 𝓜 (next 𝓜 s h) v d ≡ Val n) → EndKept v d
+    -- a VAR that is bound to a safe EX
+    newly-bound : (y : ℕ) → cell 𝓜 s v d ≡ Var → endKind 𝓜 (next 𝓜 s h) v d ≡ cell 𝓜 s v y → safe 𝓜 s v (cell 𝓜 s v y) ≡ true → EndKept v d
+
+  safe-not-var : (v : ℕ) (k : Kind) → safe 𝓜 s v k ≡ true → k ≡ Var → ⊥
+  unfolding safe
+  safe-not-var v k t q = absurd-bool (sym (ap (safe 𝓜 s v) q) ∙ t) refl
+
+  var-end : (v d : ℕ) → exported 𝓜 s v d ≡ true → cell 𝓜 s v d ≡ Var → EndKept v d
+  var-end v d x q = go (spot (h .w) (h .c) v d)
+    where
+      P : Placed 𝓜 s h
+      P = K .placed
+
+      was : endKind 𝓜 s v d ≡ Var
+      was = end-self 𝓜 s v d Var q refl
+
+      plain : (k : Kind) → cell 𝓜 (next 𝓜 s h) v d ≡ k → (isVar k || isVal k) ≡ true → EndKept v d
+      plain Free i t = absurd-bool t refl
+      plain Var i t =
+          as-before (ap namedBy (end-self 𝓜 (next 𝓜 s h) v d Var i refl ∙ sym was))
+          (λ n p. let z : _≡_ {A = ℕ} 0 1 = cc was in absurd (omega arith))
+      plain (Val m) i t =
+          as-before (ap namedBy (end-self 𝓜 (next 𝓜 s h) v d (Val m) i refl) ∙ sym (ap namedBy was))
+          (λ n p. let z : _≡_ {A = ℕ} 0 1 = cc was in absurd (omega arith))
+      plain (Ref y) i t = absurd-bool t refl
+      plain (Ex o e n st a) i t = absurd-bool t refl
+
+      becomes : h .w ≡ v → h .c ≡ d → VarBecomes 𝓜 s (h .w) (h .k) → EndKept v d
+      becomes a b (stays t) =
+          let here : cell 𝓜 (next 𝓜 s h) v d ≡ h .k = ap (λ (y : ℕ). cell 𝓜 (next 𝓜 s h) y d) (sym a) ∙ ap (λ (y : ℕ). cell 𝓜 (next 𝓜 s h) (h .w) y) (sym b) ∙ cell-here 𝓜 s h (F .sized) P in
+          plain (h .k) here t
+      becomes a b (bound y e t) =
+          let here : cell 𝓜 (next 𝓜 s h) v d ≡ Ref y = ap (λ (u : ℕ). cell 𝓜 (next 𝓜 s h) u d) (sym a) ∙ ap (λ (u : ℕ). cell 𝓜 (next 𝓜 s h) (h .w) u) (sym b) ∙ cell-here 𝓜 s h (F .sized) P ∙ e in
+          let t′ : safe 𝓜 s v (cell 𝓜 s v y) ≡ true = subst (λ (u : ℕ). safe 𝓜 s u (cell 𝓜 s u y) ≡ true) a t in
+          let apart : h .w ≡ v → h .c ≡ y → ⊥ = λ a′ b′. safe-not-var v (cell 𝓜 s v y) t′ (ap (cell 𝓜 s v) (sym b′ ∙ b) ∙ q) in
+          newly-bound y q (end-ref 𝓜 (next 𝓜 s h) v d y here ∙ cell-there 𝓜 s h (F .sized) P v y apart) t′
+
+      go : ((h .w ≡ v) × (h .c ≡ d)) ⊎ (h .w ≡ v → h .c ≡ d → ⊥) → EndKept v d
+      go (inl r) =
+          let x′ : exported 𝓜 s (h .w) (h .c) ≡ true = rw (r .0, r .1) x in
+          let old : cell 𝓜 s (h .w) (h .c) ≡ Var = rw (r .0, r .1) q in
+          becomes (r .0) (r .1) (K .var-kept x′ (ap isVar (sym (P .old-cell) ∙ old)))
+      go (inr f) = plain Var (cell-there 𝓜 s h (F .sized) P v d f ∙ q) refl
+
+  pub end-kept : (v d : ℕ) → exported 𝓜 s v d ≡ true → isFree (cell 𝓜 s v d) ≡ false → EndKept v d
+  end-kept v d x nf = go (cell 𝓜 s v d) refl nf
+    where
+      go : (k : Kind) → cell 𝓜 s v d ≡ k → isFree k ≡ false → EndKept v d
+      go Free q t = absurd-bool refl t
+      go Var q t = var-end v d x q
+      go (Val n) q t =
+          let here : cell 𝓜 (next 𝓜 s h) v d ≡ Val n = seen-val (cell 𝓜 (next 𝓜 s h) v d) n (looks v d x (ap isVar q) ∙ ap seen q) in
+          let now = end-self 𝓜 (next 𝓜 s h) v d (Val n) here refl in
+          let was = end-self 𝓜 s v d (Val n) q refl in
+          as-before (ap namedBy (now ∙ sym was)) (λ m p. now ∙ sym was ∙ p)
+      go (Ref y) q t =
+          let here : cell 𝓜 (next 𝓜 s h) v d ≡ Ref y = seen-ref (cell 𝓜 (next 𝓜 s h) v d) y (looks v d x (ap isVar q) ∙ ap seen q) in
+          let f : CellFact 𝓜 s v (Ref y) = subst (λ (k : Kind). CellFact 𝓜 s v k) q (F .cells v d) in
+          let now = end-ref 𝓜 (next 𝓜 s h) v d y here in
+          let was = end-ref 𝓜 s v d y q in
+          as-before
+          (ap namedBy now ∙ same-by namedBy unseen-named (cell 𝓜 (next 𝓜 s h) v y) (cell 𝓜 s v y) (referred-seen 𝓜 s h F K v d y q (f .1)) ∙ sym (ap namedBy was))
+          (λ n p. absurd-bool (f .1) (ap isEx (sym was ∙ p)))
+      go (Ex o e n st a) q t =
+          let same = looks v d x (ap isVar q) in
+          let was = end-self 𝓜 s v d (Ex o e n st a) q refl in
+          as-before (ex-end (cell 𝓜 (next 𝓜 s h) v d) refl (same ∙ ap seen q) ∙ sym (ap namedBy was))
+          (λ m p. let z : _≡_ {A = ℕ} 0 1 = cc in absurd (omega arith))
+        where
+          ex-end : (k : Kind) → cell 𝓜 (next 𝓜 s h) v d ≡ k → seen k ≡ Ex o e 0 Idle false → namedBy (endKind 𝓜 (next 𝓜 s h) v d) ≡ At o e
+          ex-end Free i p = let z : _≡_ {A = ℕ} 0 1 = cc in absurd (omega arith)
+          ex-end Var i p = let z : _≡_ {A = ℕ} 0 1 = cc in absurd (omega arith)
+          ex-end (Val m) i p = let z : _≡_ {A = ℕ} 0 1 = cc in absurd (omega arith)
+          ex-end (Ref y) i p = let z : _≡_ {A = ℕ} 0 1 = cc in absurd (omega arith)
+          ex-end (Ex o′ e′ n′ st′ a′) i p =
+              let same-owner : o′ ≡ o = cc in
+              let same-entry : e′ ≡ e = cc in
+              ap namedBy (end-self 𝓜 (next 𝓜 s h) v d (Ex o′ e′ n′ st′ a′) i refl) ∙ ap₂-at same-owner same-entry
+            where
+              ap₂-at : o′ ≡ o → e′ ≡ e → At o′ e′ ≡ At o e
+              ap₂-at p q = rw (p, q)
+
+  -- ---- steps
+  -- a live entry's exported cell is not free
+  pub live-exported : (a b : ℕ) (l : IsLive (entry 𝓜 s a b)) → (exported 𝓜 s a (l .cell) ≡ true) × (isFree (cell 𝓜 s a (l .cell)) ≡ false)
+  live-exported a b l =
+      (exported-by 𝓜 s a (l .cell) b (ap (entryNames (l .cell)) (l .is) ∙ eq-eqb (l .cell) (l .cell) refl), live-fact 𝓜 s F a b l .2)
+
+  -- an entry that is live before and after, taken apart: the same cell
+  pub after-live : (a b : ℕ) (l : IsLive (entry 𝓜 s a b)) → isLive (entry 𝓜 (next 𝓜 s h) a b) ≡ true → (n : ℕ) × (t : Bool) × (entry 𝓜 (next 𝓜 s h) a b ≡ Live (l .cell) n t)
+  after-live a b l t =
+      let l′ = the-live (entry 𝓜 (next 𝓜 s h) a b) t in
+      let r = live-kept 𝓜 s h F K a b (ap isLive (l .is)) t in
+      let same : l′ .cell ≡ l .cell = sym (ap cellOf (l′ .is)) ∙ r .0 ∙ ap cellOf (l .is) in
+      (l′ .weight, l′ .tainted, l′ .is ∙ ap (λ (y : ℕ). Live y (l′ .weight) (l′ .tainted)) same)
+
+  -- a step stays
+  pub follow-kept : (a b o e : ℕ) → follow 𝓜 s (At a b) ≡ At o e → isLive (entry 𝓜 (next 𝓜 s h) a b) ≡ true → follow 𝓜 (next 𝓜 s h) (At a b) ≡ At o e
+  follow-kept a b o e q t =
+      let l = follow-from 𝓜 s a b o e q in
+      let l′ = after-live a b l t in
+      let x = live-exported a b l in
+      let was : namedBy (endKind 𝓜 s a (l .cell)) ≡ At o e = sym (follow-live 𝓜 s a b (l .cell) (l .weight) (l .tainted) (l .is)) ∙ q in
+      let now = follow-live 𝓜 (next 𝓜 s h) a b (l .cell) (l′ .0) (l′ .1) (l′ .2) in
+      now ∙ go (l .cell) was (end-kept a (l .cell) (x .0) (x .1))
+    where
+      go : (d : ℕ) → namedBy (endKind 𝓜 s a d) ≡ At o e → EndKept a d → namedBy (endKind 𝓜 (next 𝓜 s h) a d) ≡ At o e
+      go d was (as-before p v) = p ∙ was
+      go d was (newly-bound y i p v) = nowhere-at (sym (ap namedBy (end-self 𝓜 s a d Var i refl)) ∙ was)
+
+  -- and so does a walk from a place that is live after the change
+  pub ahead-kept : (n : ℕ) (p : Place) (o e : ℕ) → LivePlace 𝓜 (next 𝓜 s h) p → ahead 𝓜 s n p ≡ At o e → ahead 𝓜 (next 𝓜 s h) n p ≡ At o e
+  unfolding ahead follow
+  ahead-kept zero p o e l q = q
+  ahead-kept (suc n) Nowhere o e l q = nowhere-at (sym (ahead-nowhere 𝓜 s n) ∙ q)
+  ahead-kept (suc n) (At a b) o e l q = go (follow 𝓜 s (At a b)) refl (ahead-kept n (follow 𝓜 s (At a b)) o e)
+    where
+      go : (r : Place) → follow 𝓜 s (At a b) ≡ r → (LivePlace 𝓜 (next 𝓜 s h) (follow 𝓜 s (At a b)) → ahead 𝓜 s n (follow 𝓜 s (At a b)) ≡ At o e → ahead 𝓜 (next 𝓜 s h) n (follow 𝓜 s (At a b)) ≡ At o e) → ahead 𝓜 (next 𝓜 s h) n (follow 𝓜 (next 𝓜 s h) (At a b)) ≡ At o e
+      go Nowhere i rec = nowhere-at (sym (ahead-nowhere 𝓜 s n) ∙ sym (ap (ahead 𝓜 s n) i) ∙ q)
+      go (At a′ b′) i rec =
+          let kept = follow-kept a b a′ b′ i (l a b refl) in
+          let same : follow 𝓜 (next 𝓜 s h) (At a b) ≡ follow 𝓜 s (At a b) = kept ∙ sym i in
+          ap (ahead 𝓜 (next 𝓜 s h) n) same
+          ∙ rec (subst (LivePlace 𝓜 (next 𝓜 s h)) same (follow-place 𝓜 (next 𝓜 s h) F′ (At a b))) q
+
+  -- a chain that ends in a value goes on to
+  pub ends-kept : (p : Place) (v : ℕ) → LivePlace 𝓜 (next 𝓜 s h) p → EndsIn 𝓜 s p v → EndsIn 𝓜 (next 𝓜 s h) p v
+  ends-kept p v l x =
+      let there = ahead-kept (x .steps) p (x .owner) (x .number) l (x .there) in
+      let alive = ahead-place 𝓜 (next 𝓜 s h) F′ (x .steps) p l (x .owner) (x .number) there in
+      record { steps = x .steps; owner = x .owner; number = x .number; there = there; value = go (entry 𝓜 s (x .owner) (x .number)) refl (x .value) alive }
+    where
+      go : (y : Holding) → entry 𝓜 s (x .owner) (x .number) ≡ y → entryEnd 𝓜 s (x .owner) y ≡ Val v → isLive (entry 𝓜 (next 𝓜 s h) (x .owner) (x .number)) ≡ true → entryEnd 𝓜 (next 𝓜 s h) (x .owner) (entry 𝓜 (next 𝓜 s h) (x .owner) (x .number)) ≡ Val v
+      go Unused i q t = let z : _≡_ {A = ℕ} 0 1 = cc in absurd (omega arith)
+      go (Live d n b) i q t =
+          let lv : IsLive (entry 𝓜 s (x .owner) (x .number)) = record { cell = d; weight = n; tainted = b; is = i } in
+          let l′ = after-live (x .owner) (x .number) lv t in
+          let r = live-exported (x .owner) (x .number) lv in
+          ap (entryEnd 𝓜 (next 𝓜 s h) (x .owner)) (l′ .2) ∙ value (end-kept (x .owner) d (r .0) (r .1))
+        where
+          value : EndKept (x .owner) d → endKind 𝓜 (next 𝓜 s h) (x .owner) d ≡ Val v
+          value (as-before p w) = w v q
+          value (newly-bound y j p w) =
+              let was = end-self 𝓜 s (x .owner) d Var j refl in
+              let z : _≡_ {A = ℕ} 0 1 = cc was in
+              absurd (omega arith)

@@ -1,0 +1,158 @@
+-- No loops: the rank falls with each step before a change, and after it, a new entry getting a rank of its own. Assumes nothing.
+use Prim.Native.Nat.{ℕ, zero, suc, _+_, _<_, _≤_}
+use native.Mathlib.Omega.{arith}
+use mathlib.Core.Path.{_≡_, refl, sym, ap, subst, _∙_}
+use mathlib.Core.Bool.{Bool, true, false, _&&_, _||_, not, cond}
+use mathlib.Core.Logic.{_⊎_, inl, inr}
+use lib.Dec.{eqb, ltb}
+use borrow.Author.Tests.{ltb-true, not-true}
+use Rattle.numbers.specs.Tests.{absurd-bool, or-else, and-l, and-r}
+use Rattle.tables.specs.declared.Kind.{Kind}
+use Rattle.tables.specs.declared.Kind.the-variants.{Free, Var, Val, Ref, Ex}
+use Rattle.tables.specs.declared.Holding.{Holding}
+use Rattle.tables.specs.declared.Holding.the-variants.{Unused, Live}
+use Rattle.tables.specs.declared.Place.{Place}
+use Rattle.tables.specs.declared.Place.the-variants.{Nowhere, At}
+use Rattle.tables.specs.Machine.{Machine, Tables}
+use Rattle.tables.specs.Parts.{isEx, namedBy, isLive, isTainted}
+use Rattle.tables.specs.Look.{cell, entry, end, endKind, safe}
+use Rattle.rules.specs.Sound.{varValOrSafe, follow}
+use Rattle.rules.specs.Facts.{CellFact, EntryFact, Facts}
+use Rattle.rules.proofs.Named.{the-live, IsLive, the-ex}
+use Rattle.rules.proofs.Derived.{named-place, follow-place}
+use Rattle.rules.specs.Change.{Change, next, Placed, Keeps, Ranked}
+use Rattle.rules.proofs.Next.{spot, spot-yes, spot-no, entry-here, entry-there}
+use Rattle.rules.proofs.Kept.{live-kept, facts-kept}
+use Rattle.rules.proofs.Onward.{follow-live, follow-from, live-exported, after-live, end-kept, EndKept, as-before, newly-bound}
+
+-- a safe EX names an untainted entry of a lower worker
+pub safe-ex : (𝓜 : Machine) (s : Tables) (v o e : ℕ) (k : Kind) → safe 𝓜 s v k ≡ true → namedBy k ≡ At o e → (o < v) × (isTainted (entry 𝓜 s o e) ≡ false)
+unfolding safe
+safe-ex 𝓜 s v o e Free t q = absurd-bool t refl
+safe-ex 𝓜 s v o e Var t q = absurd-bool t refl
+safe-ex 𝓜 s v o e (Val n) t q = absurd-bool t refl
+safe-ex 𝓜 s v o e (Ref d) t q = absurd-bool t refl
+safe-ex 𝓜 s v o e (Ex o′ e′ n st a) t q =
+    let same-owner : o′ ≡ o = cc in
+    let same-entry : e′ ≡ e = cc in
+    let low = ltb-true o′ v (and-l (ltb o′ v) (not (isTainted (entry 𝓜 s o′ e′))) t) in
+    let clean = not-true (isTainted (entry 𝓜 s o′ e′)) (and-r (ltb o′ v) (not (isTainted (entry 𝓜 s o′ e′))) t) in
+    (omega arith, subst (λ (u : ℕ). isTainted (entry 𝓜 s u e) ≡ false) same-owner (subst (λ (u : ℕ). isTainted (entry 𝓜 s o′ u) ≡ false) same-entry clean))
+
+-- an end that names an entry, and is a VAR, a VAL or safe, is safe
+pub good-named : (𝓜 : Machine) (s : Tables) (v o e : ℕ) (k : Kind) → varValOrSafe 𝓜 s v k ≡ true → namedBy k ≡ At o e → safe 𝓜 s v k ≡ true
+good-named 𝓜 s v o e Free t q = t
+good-named 𝓜 s v o e Var t q = let z : _≡_ {A = ℕ} 0 1 = cc in absurd (omega arith)
+good-named 𝓜 s v o e (Val n) t q = let z : _≡_ {A = ℕ} 0 1 = cc in absurd (omega arith)
+good-named 𝓜 s v o e (Ref d) t q = t
+good-named 𝓜 s v o e (Ex o′ e′ n st a) t q = t
+
+-- an EX of a worker names an entry of another
+named-other : (𝓜 : Machine) (s : Tables) (F : Facts 𝓜 s) (v d o e : ℕ) → namedBy (cell 𝓜 s v d) ≡ At o e → o ≡ v → ⊥
+named-other 𝓜 s F v d o e q w = go (cell 𝓜 s v d) (F .cells v d) q
+  where
+    go : (k : Kind) → CellFact 𝓜 s v k → namedBy k ≡ At o e → ⊥
+    go Free f p = let z : _≡_ {A = ℕ} 0 1 = cc in absurd (omega arith)
+    go Var f p = let z : _≡_ {A = ℕ} 0 1 = cc in absurd (omega arith)
+    go (Val n) f p = let z : _≡_ {A = ℕ} 0 1 = cc in absurd (omega arith)
+    go (Ref y) f p = let z : _≡_ {A = ℕ} 0 1 = cc in absurd (omega arith)
+    go (Ex o′ e′ n st a) f p =
+        let same : o′ ≡ o = cc in
+        f .1 (same ∙ w)
+
+module _ (𝓜 : Machine) (s : Tables) (h : Change) (F : Facts 𝓜 s) (K : Keeps 𝓜 s h) (r : ℕ → ℕ → ℕ) (R : Ranked 𝓜 s r) where
+  F′ : Facts 𝓜 (next 𝓜 s h)
+  F′ = facts-kept 𝓜 s h F K
+
+  -- an entry that is live after the change was live before, or is the one that the change made
+  pub was-or-new : (a b : ℕ) → isLive (entry 𝓜 (next 𝓜 s h) a b) ≡ true → (isLive (entry 𝓜 s a b) ≡ true) ⊎ ((h .o ≡ a) × (h .e ≡ b) × (isLive (h .x₀) ≡ false))
+  was-or-new a b t = go (spot (h .o) (h .e) a b) (or-else (isLive (h .x₀)))
+    where
+      P : Placed 𝓜 s h
+      P = K .placed
+
+      go : ((h .o ≡ a) × (h .e ≡ b)) ⊎ (h .o ≡ a → h .e ≡ b → ⊥) → (isLive (h .x₀) ≡ true) ⊎ (isLive (h .x₀) ≡ false) → (isLive (entry 𝓜 s a b) ≡ true) ⊎ ((h .o ≡ a) × (h .e ≡ b) × (isLive (h .x₀) ≡ false))
+      go (inl q) (inl l) =
+          inl (ap isLive (ap (λ (u : ℕ). entry 𝓜 s u b) (sym (q .0)) ∙ ap (entry 𝓜 s (h .o)) (sym (q .1)) ∙ P .old-entry) ∙ l)
+      go (inl q) (inr l) = inr (q .0, q .1, l)
+      go (inr f) l = inl (sym (ap isLive (entry-there 𝓜 s h (F .sized) P a b f)) ∙ t)
+
+  -- a step after the change from an entry that was there before
+  old-step : (a b o e : ℕ) → isLive (entry 𝓜 s a b) ≡ true → follow 𝓜 (next 𝓜 s h) (At a b) ≡ At o e → (isLive (entry 𝓜 s o e) ≡ true) × (r o e < r a b)
+  old-step a b o e t q =
+      let l = the-live (entry 𝓜 s a b) t in
+      let now = follow-from 𝓜 (next 𝓜 s h) a b o e q in
+      let l′ = after-live 𝓜 s h F K a b l (ap isLive (now .is)) in
+      let x = live-exported 𝓜 s h F K a b l in
+      let names : namedBy (endKind 𝓜 (next 𝓜 s h) a (l .cell)) ≡ At o e = sym (follow-live 𝓜 (next 𝓜 s h) a b (l .cell) (l′ .0) (l′ .1) (l′ .2)) ∙ q in
+      go (l .cell) (follow-live 𝓜 s a b (l .cell) (l .weight) (l .tainted) (l .is)) names (end-kept 𝓜 s h F K a (l .cell) (x .0) (x .1))
+    where
+      go : (d : ℕ) → follow 𝓜 s (At a b) ≡ namedBy (endKind 𝓜 s a d) → namedBy (endKind 𝓜 (next 𝓜 s h) a d) ≡ At o e → EndKept 𝓜 s h F K a d → (isLive (entry 𝓜 s o e) ≡ true) × (r o e < r a b)
+      go d was names (as-before p v) =
+          let step : follow 𝓜 s (At a b) ≡ At o e = was ∙ sym p ∙ names in
+          (follow-place 𝓜 s F (At a b) o e step, R .falls a b o e step)
+      go d was names (newly-bound y i p safe-y) =
+          let named : namedBy (cell 𝓜 s a y) ≡ At o e = sym (ap namedBy p) ∙ names in
+          let z = safe-ex 𝓜 s a o e (cell 𝓜 s a y) safe-y named in
+          let alive = named-place 𝓜 s F a y o e named in
+          (alive, omega (arith, R .own o e alive (z .1), R .low a b t, z .0))
+
+  -- a rank that agrees on the entries that were there, and is right for the one that the change made
+  pub ranked-by : (r′ : ℕ → ℕ → ℕ) → ((a b : ℕ) → isLive (entry 𝓜 s a b) ≡ true → r′ a b ≡ r a b) → (isLive (h .x₀) ≡ false → isLive (h .x) ≡ true → (h .o ≤ r′ (h .o) (h .e)) × (isTainted (h .x) ≡ false → r′ (h .o) (h .e) ≡ h .o) × ((o e : ℕ) → isLive (entry 𝓜 s o e) ≡ true → follow 𝓜 (next 𝓜 s h) (At (h .o) (h .e)) ≡ At o e → r o e < r′ (h .o) (h .e))) → Ranked 𝓜 (next 𝓜 s h) r′
+  unfolding endKind
+  ranked-by r′ agree made =
+      record {
+        low = λ a b t. low a b t (was-or-new a b t);
+        own = λ a b t u. own a b t u (was-or-new a b t);
+        falls = λ a b o e q. falls a b o e q (was-or-new a b (ap isLive (follow-from 𝓜 (next 𝓜 s h) a b o e q .is)));
+      }
+    where
+      P : Placed 𝓜 s h
+      P = K .placed
+
+      here : entry 𝓜 (next 𝓜 s h) (h .o) (h .e) ≡ h .x
+      here = entry-here 𝓜 s h (F .sized) P
+
+      low : (a b : ℕ) → isLive (entry 𝓜 (next 𝓜 s h) a b) ≡ true → (isLive (entry 𝓜 s a b) ≡ true) ⊎ ((h .o ≡ a) × (h .e ≡ b) × (isLive (h .x₀) ≡ false)) → a ≤ r′ a b
+      low a b t (inl l) = omega (arith, R .low a b l, agree a b l)
+      low a b t (inr q) =
+          subst (λ (u : ℕ). u ≤ r′ u b) (q .0)
+          (subst (λ (u : ℕ). h .o ≤ r′ (h .o) u) (q .1) (made (q .2) (live-here a b t (q .0) (q .1)) .0))
+        where
+          live-here : (a b : ℕ) → isLive (entry 𝓜 (next 𝓜 s h) a b) ≡ true → h .o ≡ a → h .e ≡ b → isLive (h .x) ≡ true
+          live-here a b t p q =
+              sym (ap isLive (ap (λ (u : ℕ). entry 𝓜 (next 𝓜 s h) u b) (sym p) ∙ ap (entry 𝓜 (next 𝓜 s h) (h .o)) (sym q) ∙ here)) ∙ t
+
+      new-here : (a b : ℕ) → h .o ≡ a → h .e ≡ b → entry 𝓜 (next 𝓜 s h) a b ≡ h .x
+      new-here a b p q =
+          ap (λ (u : ℕ). entry 𝓜 (next 𝓜 s h) u b) (sym p) ∙ ap (entry 𝓜 (next 𝓜 s h) (h .o)) (sym q) ∙ here
+
+      own : (a b : ℕ) → isLive (entry 𝓜 (next 𝓜 s h) a b) ≡ true → isTainted (entry 𝓜 (next 𝓜 s h) a b) ≡ false → (isLive (entry 𝓜 s a b) ≡ true) ⊎ ((h .o ≡ a) × (h .e ≡ b) × (isLive (h .x₀) ≡ false)) → r′ a b ≡ a
+      own a b t u (inl l) = agree a b l ∙ R .own a b l (sym (live-kept 𝓜 s h F K a b l t .1) ∙ u)
+      own a b t u (inr q) =
+          let e = new-here a b (q .0) (q .1) in
+          let m = made (q .2) (sym (ap isLive e) ∙ t) in
+          subst (λ (y : ℕ). r′ y b ≡ y) (q .0) (subst (λ (y : ℕ). r′ (h .o) y ≡ h .o) (q .1) (m .1 (sym (ap isTainted e) ∙ u)))
+
+      falls : (a b o e : ℕ) → follow 𝓜 (next 𝓜 s h) (At a b) ≡ At o e → (isLive (entry 𝓜 s a b) ≡ true) ⊎ ((h .o ≡ a) × (h .e ≡ b) × (isLive (h .x₀) ≡ false)) → r′ o e < r′ a b
+      falls a b o e q (inl l) =
+          let z = old-step a b o e l q in
+          omega (arith, agree a b l, agree o e (z .0), z .1)
+      falls a b o e q (inr n) =
+          let now = follow-from 𝓜 (next 𝓜 s h) a b o e q in
+          let e′ = new-here a b (n .0) (n .1) in
+          let m = made (n .2) (sym (ap isLive e′) ∙ ap isLive (now .is)) in
+          let at-new : follow 𝓜 (next 𝓜 s h) (At (h .o) (h .e)) ≡ At o e = ap (follow 𝓜 (next 𝓜 s h)) (ap (λ (u : ℕ). At u (h .e)) (n .0) ∙ ap (At a) (n .1)) ∙ q in
+          let alive′ = follow-place 𝓜 (next 𝓜 s h) F′ (At a b) o e q in
+          let alive = other (was-or-new o e alive′) (own-worker now) in
+          let less = m .2 o e alive at-new in
+          omega (arith, agree o e alive, subst (λ (u : ℕ). r o e < r′ u b) (n .0) (subst (λ (u : ℕ). r o e < r′ (h .o) u) (n .1) less))
+        where
+          own-worker : IsLive (entry 𝓜 (next 𝓜 s h) a b) → o ≡ a → ⊥
+          own-worker l =
+              named-other 𝓜 (next 𝓜 s h) F′ a (end 𝓜 (next 𝓜 s h) a (l .cell)) o e
+              (sym (follow-live 𝓜 (next 𝓜 s h) a b (l .cell) (l .weight) (l .tainted) (l .is)) ∙ q)
+
+          other : (isLive (entry 𝓜 s o e) ≡ true) ⊎ ((h .o ≡ o) × (h .e ≡ e) × (isLive (h .x₀) ≡ false)) → (o ≡ a → ⊥) → isLive (entry 𝓜 s o e) ≡ true
+          other (inl l) f = l
+          other (inr y) f = absurd (f (sym (y .0) ∙ n .0))

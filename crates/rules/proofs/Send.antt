@@ -1,0 +1,277 @@
+-- The calls that send: export by location and by reference, indirect, read and ask. Assumes nothing.
+use Prim.Native.Nat.{ℕ, zero, suc, _+_, _-_, _<_, _≤_}
+use native.Mathlib.Omega.{arith}
+use mathlib.Core.Path.{_≡_, refl, sym, ap, subst, _∙_}
+use mathlib.Core.Bool.{Bool, true, false, _&&_, _||_, not, cond}
+use mathlib.Core.List.{List, [], _∷_, _++_}
+use mathlib.Core.Logic.{_⊎_, inl, inr, _≢_}
+use lib.Dec.{eqb, ltb, leb}
+use borrow.Author.Tests.{leb-false, ltb-false, eqb-true, eq-eqb}
+use Rattle.numbers.specs.Below.{bit}
+use Rattle.numbers.specs.Tests.{absurd-bool, or-l, or-r}
+use Rattle.tables.specs.declared.Status.{Status}
+use Rattle.tables.specs.declared.Status.the-variants.{Idle, Reading, Known}
+use Rattle.tables.specs.declared.Kind.{Kind}
+use Rattle.tables.specs.declared.Kind.the-variants.{Free, Var, Val, Ref, Ex}
+use Rattle.tables.specs.declared.Holding.{Holding}
+use Rattle.tables.specs.declared.Holding.the-variants.{Unused, Live}
+use Rattle.tables.specs.declared.Message.{Message}
+use Rattle.tables.specs.declared.Message.the-variants.{Empty, Reference, Release, Read, Answer, Ask, Supply}
+use Rattle.tables.specs.declared.Outcome.the-variants.{Waiting}
+use Rattle.tables.specs.Machine.{Machine, Tables}
+use Rattle.tables.specs.Parts.{onEx, readingOf, isFree, isVar, isVal, isEx, isAsking, exNames, namedBy, exWeight, endFrom, isLive, isTainted, entryNames, entryWeight, goesTo}
+use Rattle.tables.specs.Look.{cell, entry, end, endKind, safe, entryOf, exported, lowestFreeEntry, lowestEmptySlot, booked, freeCells, message, putCell, putEntry, putMessage}
+use Rattle.rules.specs.Answers.{Check, Result, checked}
+use Rattle.rules.specs.Sound.{varValOrSafe, messageHolds}
+use Rattle.rules.specs.Refusals.{entryToUse, sendRefusals, byReferenceRefusals, byLocationRefusals, indirectRefusals, readSends, readRefusals, askRefusals}
+use Rattle.rules.specs.Calls.{gains, byLocation, keeps, sends, byReference, export, indirect, readEx, readAt, read, askEx, ask}
+use Rattle.rules.specs.Deliver.{cellOf}
+use Rattle.rules.specs.Machines.{Laws}
+use Rattle.rules.specs.Facts.{CellFact, EntryFact, Facts, ahead, KnownFact}
+use Rattle.rules.proofs.Inside.{cell-inside}
+use Rattle.rules.proofs.Named.{the-ex, the-entry-of, eq-both}
+use Rattle.rules.proofs.Busy.{own-entry, not-exported}
+use Rattle.rules.proofs.Derived.{live-fact}
+use Rattle.rules.specs.Change.{Change, next, Placed, Carries, Invariant}
+use Rattle.rules.proofs.Next.{cell-here}
+use Rattle.rules.proofs.Moves.{cellMove, entryMove, ExMoves, EntryMoves}
+use Rattle.rules.proofs.Steps.{Passed, after-checked, passed-both, not-false, cond-add, zero-cond, bit-cond, free-entry, empty-slot, has-room, room-sent, room-same, stays-ex, stays-entry}
+use Rattle.rules.proofs.Local.{worker-used, weight-some}
+use Rattle.rules.proofs.Entries.{entry-next}
+
+module _ (𝓜 : Machine) (L : Laws 𝓜) (s : Tables) (I : Invariant 𝓜 s) where
+  -- ---- by location: the cell x of worker w, whose end is itself
+  pub record Locates (w x to : ℕ) (taint : Bool) : Type 0 where
+    pub w-in : w < 𝓜 .workers
+    pub to-used : to < s .p
+    pub not-free : isFree (cell 𝓜 s w x) ≡ false
+    pub own-end : endKind 𝓜 s w x ≡ cell 𝓜 s w x
+    pub good : taint ≡ false → varValOrSafe 𝓜 s w (cell 𝓜 s w x) ≡ true
+    pub below : entryWeight (entry 𝓜 s w (entryToUse 𝓜 s w x)) + 𝓜 .firstWeight ≤ 𝓜 .ceiling
+    pub has-entry : leb (𝓜 .entries) (entryToUse 𝓜 s w x) ≡ false
+    pub room : booked s to < freeCells 𝓜 s to
+    pub slot : leb (𝓜 .slots) (lowestEmptySlot 𝓜 s) ≡ false
+
+  -- an entry e that gains the first weight
+  located : (w x to : ℕ) (taint : Bool) → Locates w x to taint → (e : ℕ) (x₀ y : Holding) → e < 𝓜 .entries → entry 𝓜 s w e ≡ x₀ → EntryFact 𝓜 (next 𝓜 s (entryMove 𝓜 s w e x₀ y (lowestEmptySlot 𝓜 s) Empty (Reference to w e (𝓜 .firstWeight)))) w y → (isLive x₀ ≡ true → isLive y ≡ true → (cellOf y ≡ cellOf x₀) × (isTainted y ≡ isTainted x₀)) → ((f d : ℕ) → entryNames d y ≡ true → entryNames d (entry 𝓜 s w f) ≡ true → f ≡ e) → entryWeight x₀ + 𝓜 .firstWeight ≡ entryWeight y → Invariant 𝓜 (putMessage (putEntry 𝓜 s w e y) (lowestEmptySlot 𝓜 s) (Reference to w e (𝓜 .firstWeight)))
+  located w x to taint l e x₀ y e-in q fact kept new more =
+      let free = empty-slot 𝓜 L s (I .facts) (l .slot) in
+      stays-entry 𝓜 L s (I .facts) I w e x₀ y (lowestEmptySlot 𝓜 s) Empty (Reference to w e (𝓜 .firstWeight))
+      (record {
+        o-in = l .w-in;
+        e-in = e-in;
+        i-in = free .0;
+        old-entry = q;
+        old-message = free .1;
+        entry-ok = inr fact;
+        message-ok = (l .to-used, L .first-some);
+        entry-kept = kept;
+        entry-new = new;
+        reads = λ v d. refl;
+        asks = λ v d. refl;
+        weights = λ a b. omega (arith, cond-add (eqb w a && eqb e b) (entryWeight x₀) (𝓜 .firstWeight) (entryWeight y) more);
+        holds-ok = λ a b. refl;
+        room = room-sent 𝓜 L s (I .facts) to w e (𝓜 .firstWeight) (l .room);
+      })
+      (record { read-ok = inr (0, tt); answer-ok = inr tt; known-ok = inl (λ k. k) })
+
+  by-location-stays : (w x to : ℕ) (taint : Bool) → Locates w x to taint → Invariant 𝓜 (byLocation 𝓜 s w x to taint .after)
+  unfolding byLocation entryToUse
+  by-location-stays w x to taint l = go (exported 𝓜 s w x) refl (l .has-entry) (l .below)
+    where
+      k : ℕ
+      k = lowestEmptySlot 𝓜 s
+
+      go : (b : Bool) → exported 𝓜 s w x ≡ b → leb (𝓜 .entries) (cond b (entryOf 𝓜 s w x) (lowestFreeEntry 𝓜 s w)) ≡ false → entryWeight (entry 𝓜 s w (cond b (entryOf 𝓜 s w x) (lowestFreeEntry 𝓜 s w))) + 𝓜 .firstWeight ≤ 𝓜 .ceiling → Invariant 𝓜 (putMessage (putEntry 𝓜 s w (cond b (entryOf 𝓜 s w x) (lowestFreeEntry 𝓜 s w)) (gains 𝓜 s (𝓜 .firstWeight) x taint (entry 𝓜 s w (cond b (entryOf 𝓜 s w x) (lowestFreeEntry 𝓜 s w))))) (lowestEmptySlot 𝓜 s) (Reference to w (cond b (entryOf 𝓜 s w x) (lowestFreeEntry 𝓜 s w)) (𝓜 .firstWeight)))
+      go true ex more below =
+          let e = entryOf 𝓜 s w x in
+          let n = the-entry-of x (entry 𝓜 s w e) (own-entry 𝓜 s w x ex) in
+          let slot = empty-slot 𝓜 L s (I .facts) (l .slot) in
+          let fact = live-fact 𝓜 s (I .facts) w e (record { cell = x; weight = n .weight; tainted = n .tainted; is = n .is }) in
+          let y = Live x (n .weight + 𝓜 .firstWeight) (n .tainted) in
+          let less = leb-false (𝓜 .entries) e more in
+          subst (λ (h : Holding). Invariant 𝓜 (putMessage (putEntry 𝓜 s w e (gains 𝓜 s (𝓜 .firstWeight) x taint h)) (lowestEmptySlot 𝓜 s) (Reference to w e (𝓜 .firstWeight)))) (sym (n .is))
+          (located w x to taint l e (Live x (n .weight) (n .tainted)) y less (n .is)
+          (entry-next 𝓜 L s (I .facts) w e (Live x (n .weight) (n .tainted)) y (lowestEmptySlot 𝓜 s) Empty (Reference to w e (𝓜 .firstWeight)) (l .w-in) less (slot .0) (n .is) (slot .1) x (n .weight + 𝓜 .firstWeight) (n .tainted) (omega (arith, ap entryWeight (n .is))) (omega (arith, fact .1)) (fact .2) (fact .3))
+          (λ a b. (refl, refl))
+          (λ f d t u. I .facts .entry-once w f e d u (ap (entryNames d) (n .is) ∙ t))
+          refl)
+      go false ex more below =
+          let e = lowestFreeEntry 𝓜 s w in
+          let free = free-entry 𝓜 L s (I .facts) w more in
+          let slot = empty-slot 𝓜 L s (I .facts) (l .slot) in
+          let y = Live x (𝓜 .firstWeight) taint in
+          subst (λ (h : Holding). Invariant 𝓜 (putMessage (putEntry 𝓜 s w e (gains 𝓜 s (𝓜 .firstWeight) x taint h)) (lowestEmptySlot 𝓜 s) (Reference to w e (𝓜 .firstWeight)))) (sym (free .1))
+          (located w x to taint l e Unused y (free .0) (free .1)
+          (entry-next 𝓜 L s (I .facts) w e Unused y (lowestEmptySlot 𝓜 s) Empty (Reference to w e (𝓜 .firstWeight)) (l .w-in) (free .0) (slot .0) (free .1) (slot .1) x (𝓜 .firstWeight) taint (omega (arith, ap entryWeight (free .1))) (L .first-some) (l .not-free) (λ u. ap (varValOrSafe 𝓜 s w) (l .own-end) ∙ l .good u))
+          (λ a b. absurd-bool a refl)
+          (λ f d t u. absurd-bool (subst (λ (c : ℕ). entryNames c (entry 𝓜 s w f) ≡ true) (sym (eqb-true x d t)) u) (not-exported 𝓜 s w x ex f))
+          (omega arith))
+
+  -- ---- by reference
+  by-reference-stays : (w x to : ℕ) → to < s .p → isEx (cell 𝓜 s w x) ≡ true → leb (exWeight (cell 𝓜 s w x)) 1 ≡ false → booked s to < freeCells 𝓜 s to → leb (𝓜 .slots) (lowestEmptySlot 𝓜 s) ≡ false → Invariant 𝓜 (byReference 𝓜 s w x to .after)
+  unfolding byReference
+  by-reference-stays w x to u ex heavy room full =
+      let y = the-ex (cell 𝓜 s w x) ex in
+      let o = y .owner in
+      let e = y .entry in
+      let n = y .weight in
+      let slot = empty-slot 𝓜 L s (I .facts) full in
+      let more : 1 < n = leb-false n 1 (sym (ap (λ (k : Kind). leb (exWeight k) 1) (y .is)) ∙ heavy) in
+      let part = 𝓜 .split n in
+      let less = L .split-less n more in
+      subst (λ (k : Kind). Invariant 𝓜 (putMessage (putCell 𝓜 s w x (keeps 𝓜 s k)) (lowestEmptySlot 𝓜 s) (sends 𝓜 s to k))) (sym (y .is))
+      (stays-ex 𝓜 L s (I .facts) I w x o e n (n - part) (y .status) (y .status) (y .asking) (y .asking) (lowestEmptySlot 𝓜 s) Empty (Reference to o e part)
+      (record {
+        i-in = slot .0;
+        old-cell = y .is;
+        old-message = slot .1;
+        some = omega arith;
+        message-ok = (u, L .split-some n more);
+        reads = λ v d. refl;
+        asks = λ v d. refl;
+        weights = λ a b. omega (arith, cond-add (eqb o a && eqb e b) (n - part) part n (omega arith));
+        holds-ok = λ a b. refl;
+        room = room-sent 𝓜 L s (I .facts) to o e part room;
+      })
+      (record { read-ok = inr (0, tt); answer-ok = inr tt; known-ok = inl (λ k. k) }))
+
+  -- ---- the end of a cell that is no REF's is its own
+  end-not-ref : (w c : ℕ) → isFree (cell 𝓜 s w c) ≡ false → (isFree (endKind 𝓜 s w c) ≡ false) × (endKind 𝓜 s w (end 𝓜 s w c) ≡ cell 𝓜 s w (end 𝓜 s w c))
+  unfolding endKind end
+  end-not-ref w c nf = go (cell 𝓜 s w c) refl nf
+    where
+      ex-end : (d : ℕ) → isEx (cell 𝓜 s w d) ≡ true → (isFree (cell 𝓜 s w d) ≡ false) × (cell 𝓜 s w (endFrom (cell 𝓜 s w d) d) ≡ cell 𝓜 s w d)
+      ex-end d t =
+          let y = the-ex (cell 𝓜 s w d) t in
+          (ap isFree (y .is), ap (λ (k : Kind). cell 𝓜 s w (endFrom k d)) (y .is))
+
+      go : (k : Kind) → cell 𝓜 s w c ≡ k → isFree k ≡ false → (isFree (cell 𝓜 s w (endFrom (cell 𝓜 s w c) c)) ≡ false) × (cell 𝓜 s w (endFrom (cell 𝓜 s w (endFrom (cell 𝓜 s w c) c)) (endFrom (cell 𝓜 s w c) c)) ≡ cell 𝓜 s w (endFrom (cell 𝓜 s w c) c))
+      go Free q t = absurd-bool refl t
+      go Var q t = rw (q, q) (refl, q)
+      go (Val n) q t = rw (q, q) (refl, q)
+      go (Ref d) q t =
+          let f : CellFact 𝓜 s w (Ref d) = subst (CellFact 𝓜 s w) q (I .facts .cells w c) in
+          rw q (ex-end d (f .1))
+      go (Ex o e n st a) q t = rw (q, q) (refl, q)
+
+  -- a cell that is neither free nor an EX, and its own end, is a VAR or a VAL
+  plain-end : (w x : ℕ) → isFree (cell 𝓜 s w x) ≡ false → isEx (cell 𝓜 s w x) ≡ false → endKind 𝓜 s w x ≡ cell 𝓜 s w x → varValOrSafe 𝓜 s w (cell 𝓜 s w x) ≡ true
+  unfolding endKind end
+  plain-end w x nf ne own = go (cell 𝓜 s w x) refl nf ne own
+    where
+      go : (k : Kind) → cell 𝓜 s w x ≡ k → isFree k ≡ false → isEx k ≡ false → cell 𝓜 s w (endFrom (cell 𝓜 s w x) x) ≡ cell 𝓜 s w x → varValOrSafe 𝓜 s w (cell 𝓜 s w x) ≡ true
+      go Free q t u o = absurd-bool refl t
+      go Var q t u o = ap (varValOrSafe 𝓜 s w) q
+      go (Val n) q t u o = ap (varValOrSafe 𝓜 s w) q
+      go (Ref d) q t u o =
+          let f : CellFact 𝓜 s w (Ref d) = subst (CellFact 𝓜 s w) q (I .facts .cells w x) in
+          let at-d : cell 𝓜 s w d ≡ Ref d = sym (ap (λ (k : Kind). cell 𝓜 s w (endFrom k x)) q) ∙ o ∙ q in
+          absurd-bool (f .1) (ap isEx at-d)
+      go (Ex a b n st z) q t u o = absurd-bool refl u
+
+  pub export-stays : (w c to : ℕ) → Invariant 𝓜 (export 𝓜 s w c to .after)
+  unfolding export endKind
+  export-stays w c to = go (isEx (cell 𝓜 s w (end 𝓜 s w c))) refl
+    where
+      x : ℕ
+      x = end 𝓜 s w c
+
+      go : (b : Bool) → isEx (cell 𝓜 s w (end 𝓜 s w c)) ≡ b → Invariant 𝓜 (checked s (sendRefusals 𝓜 s w c to ++ cond b (byReferenceRefusals 𝓜 s w (end 𝓜 s w c) to) (byLocationRefusals 𝓜 s w (end 𝓜 s w c) to)) (cond b (byReference 𝓜 s w (end 𝓜 s w c) to) (byLocation 𝓜 s w (end 𝓜 s w c) to false)) .after)
+      go true ex =
+          after-checked (Invariant 𝓜) s (sendRefusals 𝓜 s w c to ++ byReferenceRefusals 𝓜 s w (end 𝓜 s w c) to) (byReference 𝓜 s w (end 𝓜 s w c) to) I
+          (λ p. by-reference-stays w (end 𝓜 s w c) to (worker-used 𝓜 L s I to (search) .0) ex (search) (has-room 𝓜 L s (I .facts) to (search)) (search))
+      go false ne =
+          after-checked (Invariant 𝓜) s (sendRefusals 𝓜 s w c to ++ byLocationRefusals 𝓜 s w (end 𝓜 s w c) to) (byLocation 𝓜 s w (end 𝓜 s w c) to false) I
+          (λ p. let own = end-not-ref w c (search) in by-location-stays w (end 𝓜 s w c) to false (record { w-in = worker-used 𝓜 L s I w (search) .1; to-used = worker-used 𝓜 L s I to (search) .0; not-free = own .0; own-end = own .1; good = λ u. plain-end w (end 𝓜 s w c) (own .0) ne (own .1); below = ltb-false (𝓜 .ceiling) (entryWeight (entry 𝓜 s w (entryToUse 𝓜 s w (end 𝓜 s w c))) + 𝓜 .firstWeight) (search); has-entry = search; room = has-room 𝓜 L s (I .facts) to (search); slot = search }))
+
+  pub indirect-stays : (w c to : ℕ) → Invariant 𝓜 (indirect 𝓜 s w c to .after)
+  unfolding indirect endKind
+  indirect-stays w c to =
+      let x = end 𝓜 s w c in
+      let taint = not (safe 𝓜 s w (cell 𝓜 s w x)) in
+      after-checked (Invariant 𝓜) s (indirectRefusals 𝓜 s w c to) (byLocation 𝓜 s w x to taint) I
+      (λ p. let own = end-not-ref w c (search) in by-location-stays w x to taint (record { w-in = worker-used 𝓜 L s I w (search) .1; to-used = worker-used 𝓜 L s I to (search) .0; not-free = own .0; own-end = own .1; good = λ u. or-r (isVar (cell 𝓜 s w x) || isVal (cell 𝓜 s w x)) (not-false u); below = ltb-false (𝓜 .ceiling) (entryWeight (entry 𝓜 s w (entryToUse 𝓜 s w x)) + 𝓜 .firstWeight) (search); has-entry = search; room = has-room 𝓜 L s (I .facts) to (search); slot = search }))
+
+  -- ---- read and ask
+  -- an EX that waits for the message that goes into the empty slot
+  here-named : (w x o e n n′ : ℕ) (st st′ : Status) (a a′ : Bool) (i : ℕ) (m : Message) → i < 𝓜 .slots → message s i ≡ Empty → cell 𝓜 s w x ≡ Ex o e n st a → cell 𝓜 (next 𝓜 s (cellMove 𝓜 s w x (Ex o e n st a) (Ex o e n′ st′ a′) i Empty m)) w x ≡ Ex o e n′ st′ a′
+  here-named w x o e n n′ st st′ a a′ i m l q old =
+      let inside = cell-inside 𝓜 s w x (ap isFree old) in
+      cell-here 𝓜 s (cellMove 𝓜 s w x (Ex o e n st a) (Ex o e n′ st′ a′) i Empty m) (I .facts .sized)
+      (record { w-in = inside .0; c-in = inside .1; o-in = L .workers-some; e-in = L .entries-some; i-in = l; old-cell = old; old-entry = refl; old-message = q })
+
+  mark-on : (t : Bool) → bit t + cond t 0 0 ≡ 0 + cond t 1 0
+  mark-on true = refl
+  mark-on false = refl
+
+  read-sent : (w x o e n : ℕ) (a : Bool) → cell 𝓜 s w x ≡ Ex o e n Idle a → leb (𝓜 .slots) (lowestEmptySlot 𝓜 s) ≡ false → Invariant 𝓜 (putMessage (putCell 𝓜 s w x (Ex o e n Reading a)) (lowestEmptySlot 𝓜 s) (Read w x o e))
+  unfolding ahead
+  read-sent w x o e n a q full =
+      let k = lowestEmptySlot 𝓜 s in
+      let slot = empty-slot 𝓜 L s (I .facts) full in
+      stays-ex 𝓜 L s (I .facts) I w x o e n n Idle Reading a a k Empty (Read w x o e)
+      (record {
+        i-in = slot .0;
+        old-cell = q;
+        old-message = slot .1;
+        some = weight-some 𝓜 L s I w x o e n Idle a q;
+        message-ok = tt;
+        reads = λ v d. mark-on (eqb w v && eqb x d);
+        asks = λ v d. refl;
+        weights = λ a b. refl;
+        holds-ok = λ a b. refl;
+        room = room-same 𝓜 L s (I .facts);
+      })
+      (record { read-ok = inr (0, ap namedBy (here-named w x o e n n Idle Reading a a k (Read w x o e) (slot .0) (slot .1) q)); answer-ok = inr tt; known-ok = inr tt })
+
+  pub read-stays : (w c : ℕ) → Invariant 𝓜 (read 𝓜 s w c .after)
+  unfolding read endKind
+  read-stays w c =
+      after-checked (Invariant 𝓜) s (readRefusals 𝓜 s w c) (readAt 𝓜 s w (end 𝓜 s w c) (cell 𝓜 s w (end 𝓜 s w c))) I
+      (λ p. go (cell 𝓜 s w (end 𝓜 s w c)) refl (search))
+    where
+      x : ℕ
+      x = end 𝓜 s w c
+
+      go : (k : Kind) → cell 𝓜 s w (end 𝓜 s w c) ≡ k → (onEx false (λ o e n st a. readSends 𝓜 s st) k && leb (𝓜 .slots) (lowestEmptySlot 𝓜 s)) ≡ false → Invariant 𝓜 (readAt 𝓜 s w (end 𝓜 s w c) k .after)
+      go Free q t = I
+      go Var q t = I
+      go (Val n) q t = I
+      go (Ref d) q t = I
+      go (Ex o e n Idle a) q t = read-sent w (end 𝓜 s w c) o e n a q t
+      go (Ex o e n Reading a) q t = I
+      go (Ex o e n (Known v) a) q t = I
+
+  ask-sent : (w x o e n : ℕ) (st : Status) → cell 𝓜 s w x ≡ Ex o e n st false → leb (𝓜 .slots) (lowestEmptySlot 𝓜 s) ≡ false → Invariant 𝓜 (putMessage (putCell 𝓜 s w x (Ex o e n st true)) (lowestEmptySlot 𝓜 s) (Ask w x o e))
+  ask-sent w x o e n st q full =
+      let k = lowestEmptySlot 𝓜 s in
+      let slot = empty-slot 𝓜 L s (I .facts) full in
+      stays-ex 𝓜 L s (I .facts) I w x o e n n st st false true k Empty (Ask w x o e)
+      (record {
+        i-in = slot .0;
+        old-cell = q;
+        old-message = slot .1;
+        some = weight-some 𝓜 L s I w x o e n st false q;
+        message-ok = ap (exNames o e) (here-named w x o e n n st st false true k (Ask w x o e) (slot .0) (slot .1) q) ∙ eq-both o e;
+        reads = λ v d. refl;
+        asks = λ v d. mark-on (eqb w v && eqb x d);
+        weights = λ a b. refl;
+        holds-ok = λ a b. refl;
+        room = room-same 𝓜 L s (I .facts);
+      })
+      (record { read-ok = inr (0, tt); answer-ok = inr tt; known-ok = inl (λ k. k) })
+
+  pub ask-stays : (w c : ℕ) → Invariant 𝓜 (ask 𝓜 s w c .after)
+  unfolding ask endKind
+  ask-stays w c =
+      after-checked (Invariant 𝓜) s (askRefusals 𝓜 s w c) (onEx (record { outcome = Waiting; after = s }) (askEx 𝓜 s w (end 𝓜 s w c)) (cell 𝓜 s w (end 𝓜 s w c))) I
+      (λ p. go (cell 𝓜 s w (end 𝓜 s w c)) refl (search))
+    where
+      go : (k : Kind) → cell 𝓜 s w (end 𝓜 s w c) ≡ k → (not (isAsking k) && leb (𝓜 .slots) (lowestEmptySlot 𝓜 s)) ≡ false → Invariant 𝓜 (onEx (record { outcome = Waiting; after = s }) (askEx 𝓜 s w (end 𝓜 s w c)) k .after)
+      go Free q t = I
+      go Var q t = I
+      go (Val n) q t = I
+      go (Ref d) q t = I
+      go (Ex o e n st true) q t = I
+      go (Ex o e n st false) q t = ask-sent w (end 𝓜 s w c) o e n st q t

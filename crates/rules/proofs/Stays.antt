@@ -1,0 +1,91 @@
+-- All that holds of a reached state stays under a change that keeps and brings what it must. Assumes nothing.
+use Prim.Native.Nat.{ℕ, zero, suc, _+_, _<_, _≤_}
+use native.Mathlib.Omega.{arith}
+use mathlib.Core.Path.{_≡_, refl, sym, ap, subst, _∙_}
+use mathlib.Core.Bool.{Bool, true, false, _&&_, not, cond}
+use mathlib.Core.Logic.{_⊎_, inl, inr}
+use lib.Dec.{eqb}
+use borrow.Author.Tests.{not-true}
+use Rattle.numbers.specs.Tests.{absurd-bool, and-l, and-r, not-yes}
+use Rattle.tables.specs.declared.Place.{Place}
+use Rattle.tables.specs.declared.Place.the-variants.{Nowhere, At}
+use Rattle.tables.specs.declared.Holding.the-variants.{Live}
+use Rattle.tables.specs.Machine.{Machine, Tables}
+use Rattle.tables.specs.Parts.{namedBy, isLive, isTainted}
+use Rattle.tables.specs.Look.{entry, endKind}
+use Rattle.rules.specs.Sound.{varValOrSafe, follow}
+use Rattle.rules.specs.Facts.{EntryFact, Facts}
+use Rattle.rules.proofs.Named.{the-live, both-eq}
+use Rattle.rules.proofs.Derived.{live-fact, follow-place}
+use Rattle.rules.specs.Change.{Change, next, Placed, Keeps, Carries, Ranked, Invariant}
+use Rattle.rules.proofs.Next.{spot-yes, entry-here}
+use Rattle.rules.proofs.Kept.{live-kept, facts-kept}
+use Rattle.rules.proofs.Onward.{follow-live, follow-from}
+use Rattle.rules.proofs.Carried.{reads-kept, answers-kept, known-after}
+use Rattle.rules.proofs.Rank.{safe-ex, good-named, ranked-by}
+
+rankAt : (ℕ → ℕ → ℕ) → Place → ℕ
+rankAt r Nowhere = 0
+rankAt r (At a b) = r a b
+
+module _ (𝓜 : Machine) (s : Tables) (h : Change) (F : Facts 𝓜 s) (K : Keeps 𝓜 s h) where
+  -- a new entry stands above what it leads to; an untainted one at its worker
+  newRank : (ℕ → ℕ → ℕ) → ℕ
+  newRank r = cond (isTainted (h .x)) (suc (h .o + rankAt r (follow 𝓜 (next 𝓜 s h) (At (h .o) (h .e))))) (h .o)
+
+  isNew : ℕ → ℕ → Bool
+  isNew a b = not (isLive (h .x₀)) && (eqb (h .o) a && eqb (h .e) b)
+
+  nextRank : (ℕ → ℕ → ℕ) → ℕ → ℕ → ℕ
+  nextRank r a b = cond (isNew a b) (newRank r) (r a b)
+
+  agrees : (r : ℕ → ℕ → ℕ) (a b : ℕ) → isLive (entry 𝓜 s a b) ≡ true → nextRank r a b ≡ r a b
+  unfolding nextRank isNew
+  agrees r a b l = ap (λ (t : Bool). cond t (newRank r) (r a b)) (not-yes old)
+    where
+      old : isNew a b ≡ true → ⊥
+      old t =
+          let dead = not-true (isLive (h .x₀)) (and-l (not (isLive (h .x₀))) (eqb (h .o) a && eqb (h .e) b) t) in
+          let q = both-eq (h .o) a (h .e) b (and-r (not (isLive (h .x₀))) (eqb (h .o) a && eqb (h .e) b) t) in
+          let here = ap (λ (u : ℕ). entry 𝓜 s u b) (sym (q .0)) ∙ ap (entry 𝓜 s (h .o)) (sym (q .1)) ∙ K .placed .old-entry in
+          absurd-bool l (ap isLive here ∙ dead)
+
+  made : (r : ℕ → ℕ → ℕ) → Ranked 𝓜 s r → isLive (h .x₀) ≡ false → isLive (h .x) ≡ true → (h .o ≤ nextRank r (h .o) (h .e)) × (isTainted (h .x) ≡ false → nextRank r (h .o) (h .e) ≡ h .o) × ((o e : ℕ) → isLive (entry 𝓜 s o e) ≡ true → follow 𝓜 (next 𝓜 s h) (At (h .o) (h .e)) ≡ At o e → r o e < nextRank r (h .o) (h .e))
+  unfolding nextRank newRank isNew rankAt
+  made r R dead live =
+      let new : isNew (h .o) (h .e) ≡ true = rw (dead, spot-yes (h .o) (h .e) (h .o) (h .e) refl refl) in
+      let is : nextRank r (h .o) (h .e) ≡ newRank r = ap (λ (t : Bool). cond t (newRank r) (r (h .o) (h .e))) new in
+      (omega (arith, is, at-least (isTainted (h .x))), (λ u. is ∙ ap (λ (t : Bool). cond t (suc (h .o + rankAt r (follow 𝓜 (next 𝓜 s h) (At (h .o) (h .e))))) (h .o)) u), (λ o e l q. omega (arith, is, above (isTainted (h .x)) refl o e l q)))
+    where
+      at-least : (t : Bool) → h .o ≤ cond t (suc (h .o + rankAt r (follow 𝓜 (next 𝓜 s h) (At (h .o) (h .e))))) (h .o)
+      at-least true = omega arith
+      at-least false = omega arith
+
+      above : (t : Bool) → isTainted (h .x) ≡ t → (o e : ℕ) → isLive (entry 𝓜 s o e) ≡ true → follow 𝓜 (next 𝓜 s h) (At (h .o) (h .e)) ≡ At o e → r o e < cond t (suc (h .o + rankAt r (follow 𝓜 (next 𝓜 s h) (At (h .o) (h .e))))) (h .o)
+      above true u o e l q = omega (arith, ap (rankAt r) q)
+      above false u o e l q =
+          let F′ = facts-kept 𝓜 s h F K in
+          let here = entry-here 𝓜 s h (F .sized) (K .placed) in
+          let lv = the-live (entry 𝓜 (next 𝓜 s h) (h .o) (h .e)) (ap isLive here ∙ live) in
+          let f = live-fact 𝓜 (next 𝓜 s h) F′ (h .o) (h .e) lv in
+          let names : namedBy (endKind 𝓜 (next 𝓜 s h) (h .o) (lv .cell)) ≡ At o e = sym (follow-live 𝓜 (next 𝓜 s h) (h .o) (h .e) (lv .cell) (lv .weight) (lv .tainted) (lv .is)) ∙ q in
+          let clean : lv .tainted ≡ false = sym (ap isTainted (lv .is)) ∙ ap isTainted here ∙ u in
+          let z = safe-ex 𝓜 (next 𝓜 s h) (h .o) o e (endKind 𝓜 (next 𝓜 s h) (h .o) (lv .cell)) (good-named 𝓜 (next 𝓜 s h) (h .o) o e (endKind 𝓜 (next 𝓜 s h) (h .o) (lv .cell)) (f .3 clean) names) names in
+          let alive′ = follow-place 𝓜 (next 𝓜 s h) F′ (At (h .o) (h .e)) o e q in
+          omega (arith, z .0, R .own o e l (sym (live-kept 𝓜 s h F K o e l alive′ .1) ∙ z .1))
+
+pub invariant-kept : (𝓜 : Machine) (s : Tables) (h : Change) (I : Invariant 𝓜 s) → Keeps 𝓜 s h → Carries 𝓜 s h → Invariant 𝓜 (next 𝓜 s h)
+invariant-kept 𝓜 s h I K C =
+    let F = I .facts in
+    record {
+      facts = facts-kept 𝓜 s h F K;
+      reads = reads-kept 𝓜 s h F K C (I .reads);
+      known = known-after 𝓜 s h F K C (I .known);
+      answers = answers-kept 𝓜 s h F K C (I .answers);
+      rank = nextRank 𝓜 s h F K (I .rank);
+      ranked = ranked-by 𝓜 s h F K (I .rank) (I .ranked) (nextRank 𝓜 s h F K (I .rank)) (agrees 𝓜 s h F K (I .rank)) (made 𝓜 s h F K (I .rank) (I .ranked));
+    }
+
+-- where the change makes no entry, the rank itself stays
+pub rank-kept : (𝓜 : Machine) (s : Tables) (h : Change) (F : Facts 𝓜 s) (K : Keeps 𝓜 s h) (r : ℕ → ℕ → ℕ) → Ranked 𝓜 s r → (isLive (h .x) ≡ true → isLive (h .x₀) ≡ true) → Ranked 𝓜 (next 𝓜 s h) r
+rank-kept 𝓜 s h F K r R old = ranked-by 𝓜 s h F K r R r (λ a b l. refl) (λ dead live. absurd-bool (old live) dead)

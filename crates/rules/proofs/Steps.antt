@@ -1,0 +1,183 @@
+-- What the proofs of single calls share: the refusals that a call has passed, what a search found, room for what is sent, and the invariant
+-- over the rules' own stores. Assumes nothing.
+use Prim.Native.Nat.{ℕ, zero, suc, _+_, _-_, _*_, _<_, _≤_}
+use native.Mathlib.Omega.{arith}
+use mathlib.Core.Path.{_≡_, refl, sym, ap, subst, _∙_}
+use mathlib.Core.Bool.{Bool, true, false, _&&_, _||_, not, cond}
+use mathlib.Core.List.{List, [], _∷_, _++_}
+use mathlib.Core.Logic.{_⊎_, inl, inr, _≢_}
+use lib.Dec.{eqb, ltb, leb}
+use borrow.Author.Tests.{ltb-true, ltb-false, leb-false, eqb-true, eqb-false}
+use Rattle.numbers.specs.Below.{bit, lowest, someBelow, countBelow}
+use Rattle.numbers.specs.Tests.{absurd-bool}
+use Rattle.numbers.specs.BelowLaws.{sum-some, some-of, lowest-at}
+use Rattle.tables.specs.declared.Refusal.{Refusal}
+use Rattle.tables.specs.declared.Status.{Status}
+use Rattle.tables.specs.declared.Kind.{Kind}
+use Rattle.tables.specs.declared.Kind.the-variants.{Free, Var, Val, Ref, Ex}
+use Rattle.tables.specs.declared.Holding.{Holding}
+use Rattle.tables.specs.declared.Holding.the-variants.{Unused, Live}
+use Rattle.tables.specs.declared.Message.{Message}
+use Rattle.tables.specs.declared.Message.the-variants.{Empty, Reference, Release, Read, Answer, Ask, Supply}
+use Rattle.tables.specs.Machine.{Machine, Tables}
+use Rattle.tables.specs.Parts.{isFree, isVar, isEx, isReading, isAsking, entryNames, isUnused, isEmpty, goesTo}
+use Rattle.tables.specs.Look.{cell, entry, entryOf, exported, referred, busy, lowestFreeCell, lowestFreeEntry, lowestEmptySlot, booked, freeCells, message, putCell, putEntry, putMessage}
+use Rattle.rules.specs.Answers.{Check, _when_, Result, refuse, checked}
+use Rattle.rules.specs.Machines.{Laws}
+use Rattle.rules.specs.Facts.{CellFact, Facts}
+use Rattle.rules.proofs.Inside.{cell-inside}
+use Rattle.rules.proofs.Named.{the-entry-of}
+use Rattle.rules.proofs.Busy.{own-entry, naming-ref, not-busy}
+use Rattle.rules.proofs.Derived.{live-fact}
+use Rattle.rules.specs.Change.{Change, next, Placed, Keeps, Carries, Invariant}
+use Rattle.rules.proofs.Next.{spot, cell-here, cell-there, entry-here, entry-there}
+use Rattle.rules.proofs.Stays.{invariant-kept}
+use Rattle.rules.proofs.Moves.{cellMove, entryMove, put-cell-message, put-cell, put-entry-message, put-message, CellMoves, cell-keeps, ExMoves, ex-keeps, EntryMoves, entry-keeps}
+
+-- ---- refusals passed: none of the tests hit
+abbrev pub Passed : List Check → Type 0
+Passed [] = Unit {0}
+Passed ((why when hit) ∷ l) = (hit ≡ false) × Passed l
+
+-- a refused call leaves the state as it came
+pub after-checked : (P : Tables → Type 0) (s : Tables) (l : List Check) (r : Result) → P s → (Passed l → P (r .after)) → P (checked s l r .after)
+unfolding checked
+after-checked P s [] r old new = new tt
+after-checked P s ((why when hit) ∷ l) r old new = go hit refl (after-checked P s l r old)
+  where
+    go : (b : Bool) → hit ≡ b → ((Passed l → P (r .after)) → P (checked s l r .after)) → P (refuse b why s (checked s l r) .after)
+    go true e rest = old
+    go false e rest = rest (λ p. new (e, p))
+
+-- the tests of two lists, one after the other
+pub passed-both : (l r : List Check) → Passed (l ++ r) → Passed l × Passed r
+passed-both [] r p = (tt, p)
+passed-both ((why when hit) ∷ l) r p =
+    let q = passed-both l r (p .1) in
+    ((p .0, q .0), q .1)
+
+pub not-false : {b : Bool} → not b ≡ false → b ≡ true
+not-false {b = true} e = refl
+not-false {b = false} e = absurd-bool refl e
+
+-- ---- parts by their tests
+pub free-is : (k : Kind) → isFree k ≡ true → k ≡ Free
+free-is Free t = refl
+free-is Var t = absurd-bool t refl
+free-is (Val n) t = absurd-bool t refl
+free-is (Ref d) t = absurd-bool t refl
+free-is (Ex o e n st a) t = absurd-bool t refl
+
+pub var-is : (k : Kind) → isVar k ≡ true → k ≡ Var
+var-is Free t = absurd-bool t refl
+var-is Var t = refl
+var-is (Val n) t = absurd-bool t refl
+var-is (Ref d) t = absurd-bool t refl
+var-is (Ex o e n st a) t = absurd-bool t refl
+
+pub unused-is : (x : Holding) → isUnused x ≡ true → x ≡ Unused
+unused-is Unused t = refl
+unused-is (Live c n u) t = absurd-bool t refl
+
+pub empty-is : (m : Message) → isEmpty m ≡ true → m ≡ Empty
+empty-is Empty t = refl
+empty-is (Reference to o e n) t = absurd-bool t refl
+empty-is (Release o e n) t = absurd-bool t refl
+empty-is (Read r c o e) t = absurd-bool t refl
+empty-is (Answer r c n) t = absurd-bool t refl
+empty-is (Ask a c o e) t = absurd-bool t refl
+empty-is (Supply a c n) t = absurd-bool t refl
+
+-- ---- choices by a test of place
+pub cond-add : (t : Bool) (a b n : ℕ) → a + b ≡ n → cond t a 0 + cond t b 0 ≡ cond t n 0
+cond-add true a b n h = h
+cond-add false a b n h = refl
+
+pub zero-cond : (t : Bool) → _≡_ {A = ℕ} (cond t 0 0) 0
+zero-cond true = refl
+zero-cond false = refl
+
+pub bit-cond : (t : Bool) → bit t ≡ cond t 1 0
+bit-cond true = refl
+bit-cond false = refl
+
+module _ (𝓜 : Machine) (L : Laws 𝓜) (s : Tables) (F : Facts 𝓜 s) where
+  -- ---- what a search found
+  -- more free cells than booked: the lowest is a free cell
+  pub free-cell : (w : ℕ) → 1 ≤ freeCells 𝓜 s w → (lowestFreeCell 𝓜 s w < 𝓜 .cells) × (cell 𝓜 s w (lowestFreeCell 𝓜 s w) ≡ Free)
+  unfolding freeCells lowestFreeCell
+  free-cell w h =
+      let r = sum-some (𝓜 .cells) (λ c. bit (isFree (cell 𝓜 s w c))) h in
+      let less = ltb-true (lowest (𝓜 .cells) (λ c. isFree (cell 𝓜 s w c))) (𝓜 .cells) (some-of (𝓜 .cells) (λ c. isFree (cell 𝓜 s w c)) (r .0) (r .1) (one (isFree (cell 𝓜 s w (r .0))) (r .2))) in
+      (less, free-is (cell 𝓜 s w (lowestFreeCell 𝓜 s w)) (lowest-at (𝓜 .cells) (λ c. isFree (cell 𝓜 s w c)) less))
+    where
+      one : (b : Bool) → 1 ≤ bit b → b ≡ true
+      one true k = refl
+      one false k = absurd (omega arith)
+
+  pub free-entry : (w : ℕ) → leb (𝓜 .entries) (lowestFreeEntry 𝓜 s w) ≡ false → (lowestFreeEntry 𝓜 s w < 𝓜 .entries) × (entry 𝓜 s w (lowestFreeEntry 𝓜 s w) ≡ Unused)
+  unfolding lowestFreeEntry
+  free-entry w h =
+      let less = leb-false (𝓜 .entries) (lowestFreeEntry 𝓜 s w) h in
+      (less, unused-is (entry 𝓜 s w (lowestFreeEntry 𝓜 s w)) (lowest-at (𝓜 .entries) (λ e. isUnused (entry 𝓜 s w e)) less))
+
+  pub empty-slot : leb (𝓜 .slots) (lowestEmptySlot 𝓜 s) ≡ false → (lowestEmptySlot 𝓜 s < 𝓜 .slots) × (message s (lowestEmptySlot 𝓜 s) ≡ Empty)
+  unfolding lowestEmptySlot
+  empty-slot h =
+      let less = leb-false (𝓜 .slots) (lowestEmptySlot 𝓜 s) h in
+      (less, empty-is (message s (lowestEmptySlot 𝓜 s)) (lowest-at (𝓜 .slots) (λ k. isEmpty (message s k)) less))
+
+  -- ---- room
+  pub has-room : (to : ℕ) → leb (freeCells 𝓜 s to) (booked s to) ≡ false → booked s to < freeCells 𝓜 s to
+  has-room to h = leb-false (freeCells 𝓜 s to) (booked s to) h
+
+  -- a Reference sent to a worker that has room
+  pub room-sent : (to o e n : ℕ) → booked s to < freeCells 𝓜 s to → (v : ℕ) → booked s v + bit (goesTo v (Reference to o e n)) ≤ freeCells 𝓜 s v + bit (goesTo v Empty)
+  room-sent to o e n h v = go (eqb to v) refl
+    where
+      go : (b : Bool) → eqb to v ≡ b → booked s v + bit b ≤ freeCells 𝓜 s v + 0
+      go true t = let q = eqb-true to v t in subst (λ (u : ℕ). booked s u + 1 ≤ freeCells 𝓜 s u + 0) q (omega arith)
+      go false t = omega (arith, F .room v)
+
+  pub room-same : (v : ℕ) → booked s v + 0 ≤ freeCells 𝓜 s v + 0
+  room-same v = omega (arith, F .room v)
+
+  -- ---- a free cell is not busy
+  pub free-not-busy : (w c : ℕ) → cell 𝓜 s w c ≡ Free → busy 𝓜 s w c ≡ true → ⊥
+  free-not-busy w c q t = go (exported 𝓜 s w c) refl (referred 𝓜 s w c) refl
+    where
+      go : (a : Bool) → exported 𝓜 s w c ≡ a → (b : Bool) → referred 𝓜 s w c ≡ b → ⊥
+      go true x b y =
+          let e = entryOf 𝓜 s w c in
+          let l = the-entry-of c (entry 𝓜 s w e) (own-entry 𝓜 s w c x) in
+          let f = live-fact 𝓜 s F w e (record { cell = c; weight = l .weight; tainted = l .tainted; is = l .is }) in
+          absurd-bool (ap isFree q) (f .2)
+      go false x true y =
+          let r = naming-ref 𝓜 s w c y in
+          let f : CellFact 𝓜 s w (Ref c) = subst (CellFact 𝓜 s w) (r .1) (F .cells w (r .0)) in
+          absurd-bool (f .1) (ap isEx q)
+      go false x false y =
+          absurd-bool t (not-busy 𝓜 s w c x y (ap isReading q) (ap isAsking q))
+
+  -- ---- the invariant over the rules' stores
+  module _ (I : Invariant 𝓜 s) where
+    pub stays-cell : (w c : ℕ) (k₀ k : Kind) → CellMoves 𝓜 L s w c k₀ k 0 (message s 0) (message s 0) → Carries 𝓜 s (cellMove 𝓜 s w c k₀ k 0 (message s 0) (message s 0)) → Invariant 𝓜 (putCell 𝓜 s w c k)
+    stays-cell w c k₀ k M C =
+        subst (Invariant 𝓜) (put-cell 𝓜 L s w c k₀ k (M .w-in) (M .c-in))
+        (invariant-kept 𝓜 s (cellMove 𝓜 s w c k₀ k 0 (message s 0) (message s 0)) I (cell-keeps 𝓜 L s F w c k₀ k 0 (message s 0) (message s 0) M) C)
+
+    pub stays-cell-message : (w c : ℕ) (k₀ k : Kind) (i : ℕ) (m₀ m : Message) → CellMoves 𝓜 L s w c k₀ k i m₀ m → Carries 𝓜 s (cellMove 𝓜 s w c k₀ k i m₀ m) → Invariant 𝓜 (putMessage (putCell 𝓜 s w c k) i m)
+    stays-cell-message w c k₀ k i m₀ m M C =
+        subst (Invariant 𝓜) (put-cell-message 𝓜 L s w c k₀ k i m₀ m (M .w-in) (M .c-in))
+        (invariant-kept 𝓜 s (cellMove 𝓜 s w c k₀ k i m₀ m) I (cell-keeps 𝓜 L s F w c k₀ k i m₀ m M) C)
+
+    pub stays-ex : (w c o e n₀ n : ℕ) (st₀ st : Status) (a₀ a : Bool) (i : ℕ) (m₀ m : Message) → ExMoves 𝓜 L s F w c o e n₀ n st₀ st a₀ a i m₀ m → Carries 𝓜 s (cellMove 𝓜 s w c (Ex o e n₀ st₀ a₀) (Ex o e n st a) i m₀ m) → Invariant 𝓜 (putMessage (putCell 𝓜 s w c (Ex o e n st a)) i m)
+    stays-ex w c o e n₀ n st₀ st a₀ a i m₀ m M C =
+        let inside = cell-inside 𝓜 s w c (ap isFree (M .old-cell)) in
+        subst (Invariant 𝓜) (put-cell-message 𝓜 L s w c (Ex o e n₀ st₀ a₀) (Ex o e n st a) i m₀ m (inside .0) (inside .1))
+        (invariant-kept 𝓜 s (cellMove 𝓜 s w c (Ex o e n₀ st₀ a₀) (Ex o e n st a) i m₀ m) I (ex-keeps 𝓜 L s F w c o e n₀ n st₀ st a₀ a i m₀ m M) C)
+
+    pub stays-entry : (o e : ℕ) (x₀ x : Holding) (i : ℕ) (m₀ m : Message) → EntryMoves 𝓜 L s F o e x₀ x i m₀ m → Carries 𝓜 s (entryMove 𝓜 s o e x₀ x i m₀ m) → Invariant 𝓜 (putMessage (putEntry 𝓜 s o e x) i m)
+    stays-entry o e x₀ x i m₀ m M C =
+        subst (Invariant 𝓜) (put-entry-message 𝓜 L s o e x₀ x i m₀ m (M .o-in) (M .e-in))
+        (invariant-kept 𝓜 s (entryMove 𝓜 s o e x₀ x i m₀ m) I (entry-keeps 𝓜 L s F o e x₀ x i m₀ m M) C)

@@ -1,0 +1,295 @@
+-- Demand 3, for every machine whose sizes and weights meet a few laws. Assumes nothing.
+use Prim.Native.Nat.{ℕ, zero, suc, _+_, _<_, _≤_}
+use native.Mathlib.Omega.{arith}
+use mathlib.Core.Path.{_≡_, refl, sym, ap, subst, _∙_}
+use mathlib.Core.Bool.{Bool, true, false, _&&_, _||_, not, cond}
+use mathlib.Core.List.{List, [], _∷_}
+use mathlib.Core.Logic.{_⊎_, inl, inr}
+use lib.Dec.{eqb}
+use borrow.Author.Tests.{eq-eqb, ne-eqb, not-true}
+use Rattle.numbers.specs.Below.{bit}
+use Rattle.numbers.specs.Tests.{absurd-bool, or-else, and-l, and-r}
+use Rattle.numbers.specs.ListLaws.{total-some}
+use Rattle.tables.specs.declared.Slot.{Slot}
+use Rattle.tables.specs.declared.Status.{Status}
+use Rattle.tables.specs.declared.Status.the-variants.{Idle, Reading, Known}
+use Rattle.tables.specs.declared.Kind.{Kind}
+use Rattle.tables.specs.declared.Kind.the-variants.{Free, Var, Val, Ref, Ex}
+use Rattle.tables.specs.declared.Holding.{Holding}
+use Rattle.tables.specs.declared.Holding.the-variants.{Unused, Live}
+use Rattle.tables.specs.declared.Message.{Message}
+use Rattle.tables.specs.declared.Message.the-variants.{Empty, Reference, Release, Read, Answer, Ask, Supply}
+use Rattle.tables.specs.declared.Place.{Place}
+use Rattle.tables.specs.declared.Place.the-variants.{Nowhere, At}
+use Rattle.tables.specs.declared.Outcome.the-variants.{Done}
+use Rattle.tables.specs.declared.Call.{Call}
+use Rattle.tables.specs.declared.Call.the-variants.{Start, New, Set, Bind, Export, Indirect, Transfer, Drop, ReadCell, AskWeight, Deliver, Bound}
+use Rattle.tables.specs.Machine.{Machine, Tables}
+use Rattle.tables.specs.Parts.{isVar, isVal, isReading, namedBy, isLive, entryWeight, isEmpty}
+use Rattle.tables.specs.Look.{cell, entry, liveEntries, message}
+use Rattle.rules.specs.Answers.{Check, _when_, Result, succeeds, refuse, checked}
+use Rattle.rules.specs.Sound.{readsFor, readsOf, held, sound}
+use Rattle.rules.specs.Refusals.{entryEnd, ready, deliverRefusals, boundRefusals}
+use Rattle.rules.specs.Calls.{start, bound, B}
+use Rattle.rules.specs.Deliver.{deliverHome, deliverAway, deliverRelease, deliverRead, deliverAnswer, deliverSupply, deliverAsk, deliverMessage, deliver}
+use Rattle.rules.specs.Step.{isStart, step, run, delivers, drained, successes, Reached, begun, after}
+use Rattle.rules.specs.Machines.{Laws}
+use Rattle.rules.specs.Facts.{Facts, EntryFact, ahead, ReadAhead, EndsIn, StatusFact, KnownFact, AnswerFact}
+use Rattle.rules.proofs.Derived.{LivePlace, named-place}
+use Rattle.rules.proofs.Named.{both-eq}
+use Rattle.rules.proofs.ToTest.{facts-sound}
+use Rattle.rules.specs.Change.{Ranked, Invariant}
+use Rattle.rules.specs.Statements.{noStart, EverySequence, StaysSound, Weights, FreedAtNothing, ComesToAnEnd, NoLoops, AtMostB, holdsReady, ReadySucceeds, AtRest, readOfUnbound, OnlyUnboundReads, KnownWith, Brought, Demand3}
+use Rattle.rules.proofs.Count.{standing, standing-live, reads-within, comes-to-end}
+use Rattle.rules.proofs.Measure.{measure, measure-bound, KindOn, ExOn, StatusOn, Arrived}
+use Rattle.rules.proofs.Steps.{Passed, after-checked}
+use Rattle.rules.proofs.Local.{new-stays, set-stays, bind-stays, transfer-stays, drop-stays}
+use Rattle.rules.proofs.Send.{export-stays, indirect-stays, read-stays, ask-stays}
+use Rattle.rules.proofs.Arrive.{message-arrives, deliver-stays}
+use Rattle.rules.proofs.Begun.{start-invariant}
+use Rattle.rules.proofs.Chains.{ends-one, on-chain}
+
+-- ---- every sequence
+module _ (𝓜 : Machine) where
+  reached-run : (s : Tables) (qs : List Call) → Reached 𝓜 s → noStart qs ≡ true → Reached 𝓜 (run 𝓜 s qs)
+  unfolding run
+  reached-run s [] r none = r
+  reached-run s (q ∷ qs) r none =
+      reached-run (step 𝓜 s q .after) qs (after r q (not-true (isStart q) (and-l (not (isStart q)) (noStart qs) none)))
+      (and-r (not (isStart q)) (noStart qs) none)
+
+  reached-drained : (s : Tables) (ks : List ℕ) → Reached 𝓜 s → Reached 𝓜 (drained 𝓜 s ks)
+  unfolding drained step
+  reached-drained s [] r = r
+  reached-drained s (k ∷ ks) r = reached-drained (deliver 𝓜 s k .after) ks (after r (Deliver k) refl)
+
+module _ (𝓜 : Machine) (L : Laws 𝓜) where
+  -- ---- the invariant holds of every reached state
+  bound-stays : (s : Tables) → Invariant 𝓜 s → Invariant 𝓜 (bound 𝓜 s .after)
+  unfolding bound
+  bound-stays s I =
+      after-checked (Invariant 𝓜) s (boundRefusals 𝓜 s) (record { outcome = Done (B 𝓜 s); after = s }) I (λ p. I)
+
+  step-stays : (s : Tables) → Invariant 𝓜 s → (q : Call) → isStart q ≡ false → Invariant 𝓜 (step 𝓜 s q .after)
+  unfolding step
+  step-stays s I (Start p) n = absurd-bool refl n
+  step-stays s I (New w) n = new-stays 𝓜 L s I w
+  step-stays s I (Set w c v) n = set-stays 𝓜 L s I w c v
+  step-stays s I (Bind w c x) n = bind-stays 𝓜 L s I w c x
+  step-stays s I (Export w c to) n = export-stays 𝓜 L s I w c to
+  step-stays s I (Indirect w c to) n = indirect-stays 𝓜 L s I w c to
+  step-stays s I (Transfer w c to) n = transfer-stays 𝓜 L s I w c to
+  step-stays s I (Drop w c) n = drop-stays 𝓜 L s I w c
+  step-stays s I (ReadCell w c) n = read-stays 𝓜 L s I w c
+  step-stays s I (AskWeight w c) n = ask-stays 𝓜 L s I w c
+  step-stays s I (Deliver k) n = deliver-stays 𝓜 L s I k
+  step-stays s I Bound n = bound-stays s I
+
+  pub reached-invariant : (s : Tables) → Reached 𝓜 s → Invariant 𝓜 s
+  reached-invariant s (begun p ok) = start-invariant 𝓜 p ok
+  reached-invariant s (after {s = t} r q n) = step-stays t (reached-invariant t r) q n
+
+  -- ---- sound, weights, no loops
+  is-sound : (s : Tables) → Invariant 𝓜 s → sound 𝓜 s ≡ true
+  is-sound s I = facts-sound 𝓜 L s (I .facts) (reads-within 𝓜 L s (I .facts) (I .rank) (I .ranked) (I .reads))
+
+  freed : FreedAtNothing 𝓜
+  freed s r w e = go (entry 𝓜 s w e) (I .facts .entries w e) (I .facts .weighed w e)
+    where
+      I : Invariant 𝓜 s
+      I = reached-invariant s r
+
+      go : (x : Holding) → EntryFact 𝓜 s w x → entryWeight x ≡ held 𝓜 s w e → isLive x ≡ not (eqb (held 𝓜 s w e) 0)
+      go Unused f q = sym (ap not (eq-eqb (held 𝓜 s w e) 0 (sym q)))
+      go (Live c n t) f q = sym (ap not (ne-eqb (held 𝓜 s w e) 0 (λ z. omega (arith, f .1))))
+
+  no-loops : NoLoops 𝓜
+  no-loops s r o e live =
+      let I = reached-invariant s r in
+      let x = comes-to-end 𝓜 L s (I .facts) (I .rank) (I .ranked) o e live in
+      record { steps = x .steps; owner = x .owner; number = x .number; few = omega (arith, x .few, standing-live 𝓜 L s (I .facts .sized) (I .rank) (I .rank o e)); there = x .there; var-or-val = x .end-plain }
+
+  -- ---- one delivery: refused where the slot holds no ready message, and else the message arrives
+  message-done : (s : Tables) (k : ℕ) (m : Message) → succeeds (deliverMessage 𝓜 s k m .outcome) ≡ true
+  unfolding deliverMessage deliverHome deliverAway deliverRelease deliverRead deliverAnswer deliverSupply deliverAsk
+  message-done s k Empty = refl
+  message-done s k (Reference to o e w) = go (eqb to o)
+    where
+      go : (b : Bool) → succeeds (cond b (deliverHome 𝓜 s k o e w) (deliverAway 𝓜 s k to o e w) .outcome) ≡ true
+      go true = refl
+      go false = refl
+  message-done s k (Release o e w) = refl
+  message-done s k (Read r c o e) = refl
+  message-done s k (Answer r c v) = refl
+  message-done s k (Ask a c o e) = refl
+  message-done s k (Supply a c w) = refl
+
+  pub data Delivery (s : Tables) (k : ℕ) : Type 0 where
+    refused : holdsReady 𝓜 s k ≡ false → delivers 𝓜 s k ≡ false → deliver 𝓜 s k .after ≡ s → Delivery s k
+    arrives : isEmpty (message s k) ≡ false → ready 𝓜 s (message s k) ≡ true → deliver 𝓜 s k ≡ deliverMessage 𝓜 s k (message s k) → Delivery s k
+
+  delivery : (s : Tables) → Invariant 𝓜 s → (k : ℕ) → Delivery s k
+  unfolding deliver checked
+  delivery s I k = go (sound 𝓜 s) (is-sound s I) (isEmpty (message s k)) refl (ready 𝓜 s (message s k)) refl
+    where
+      go : (a : Bool) → sound 𝓜 s ≡ true → (b : Bool) → isEmpty (message s k) ≡ b → (c : Bool) → ready 𝓜 s (message s k) ≡ c → Delivery s k
+      go a t true e c f = refused (ap (λ (x : Bool). not x && ready 𝓜 s (message s k)) e) (rw (t, e)) (rw (t, e))
+      go a t false e true f = arrives e f (rw (t, e, f))
+      go a t false e false f = refused (rw (e, f)) (rw (t, e, f)) (rw (t, e, f))
+
+  ready-true : (s : Tables) (k : ℕ) → isEmpty (message s k) ≡ false → ready 𝓜 s (message s k) ≡ true → holdsReady 𝓜 s k ≡ true
+  ready-true s k e f = rw (e, f)
+
+  delivers-ready : (s : Tables) → Invariant 𝓜 s → (k : ℕ) → delivers 𝓜 s k ≡ holdsReady 𝓜 s k
+  delivers-ready s I k = go (delivery s I k)
+    where
+      go : Delivery s k → delivers 𝓜 s k ≡ holdsReady 𝓜 s k
+      go (refused a b c) = b ∙ sym a
+      go (arrives a b c) = ap (λ (x : Result). succeeds (x .outcome)) c ∙ message-done s k (message s k) ∙ sym (ready-true s k a b)
+
+  -- ---- deliveries in any order: each that succeeds lowers the measure
+  few-succeed : (s : Tables) (I : Invariant 𝓜 s) (r : ℕ → ℕ → ℕ) → Ranked 𝓜 s r → (ks : List ℕ) → successes 𝓜 s ks ≤ measure 𝓜 s r
+  unfolding successes
+  few-succeed s I r R [] = omega arith
+  few-succeed s I r R (k ∷ ks) = go (delivery s I k) (λ t J Q. few-succeed t J r Q ks)
+    where
+      go : Delivery s k → ((t : Tables) → Invariant 𝓜 t → Ranked 𝓜 t r → successes 𝓜 t ks ≤ measure 𝓜 t r) → bit (delivers 𝓜 s k) + successes 𝓜 (deliver 𝓜 s k .after) ks ≤ measure 𝓜 s r
+      go (refused a b c) rec =
+          let rest : successes 𝓜 (deliver 𝓜 s k .after) ks ≤ measure 𝓜 s r = subst (λ (t : Tables). successes 𝓜 t ks ≤ measure 𝓜 s r) (sym c) (rec s I R) in
+          omega (arith, ap bit b)
+      go (arrives a b c) rec =
+          let x = message-arrives 𝓜 L s I r R k (message s k) refl a b in
+          let next = deliverMessage 𝓜 s k (message s k) .after in
+          let same : deliver 𝓜 s k .after ≡ next = ap (λ (y : Result). y .after) c in
+          let rest : successes 𝓜 (deliver 𝓜 s k .after) ks ≤ measure 𝓜 next r = subst (λ (t : Tables). successes 𝓜 t ks ≤ measure 𝓜 next r) (sym same) (rec next (x .invariant) (x .ranked)) in
+          omega (arith, x .lower, bit-le (delivers 𝓜 s k))
+        where
+          bit-le : (z : Bool) → bit z ≤ 1
+          bit-le true = omega arith
+          bit-le false = omega arith
+
+  at-most-b : AtMostB 𝓜
+  at-most-b s r ks =
+      let I = reached-invariant s r in
+      omega (arith, few-succeed s I (I .rank) (I .ranked) ks, measure-bound 𝓜 L s (I .facts) (I .rank))
+
+  -- ---- at rest
+  unbound-left : (s : Tables) (m : Message) → (not (isEmpty m) && ready 𝓜 s m) ≡ false → readOfUnbound 𝓜 s m ≡ true
+  unfolding ready
+  unbound-left s Empty t = refl
+  unbound-left s (Reference to o e w) t = absurd-bool refl t
+  unbound-left s (Release o e w) t = absurd-bool refl t
+  unbound-left s (Read r c o e) t = twice (isVar (entryEnd 𝓜 s o (entry 𝓜 s o e))) t
+    where
+      twice : (b : Bool) → not b ≡ false → b ≡ true
+      twice true u = refl
+      twice false u = absurd-bool refl u
+  unbound-left s (Answer r c v) t = absurd-bool refl t
+  unbound-left s (Ask a c o e) t = absurd-bool refl t
+  unbound-left s (Supply a c w) t = absurd-bool refl t
+
+  -- ---- a read on a chain that ends in a value brings it
+  -- an EX that is reading, on a chain that ends in v, or is known with v
+  pub data Told (s : Tables) (w c o e v : ℕ) : Type 0 where
+    reads-on : (n : ℕ) (a : Bool) → cell 𝓜 s w c ≡ Ex o e n Reading a → EndsIn 𝓜 s (At o e) v → Told s w c o e v
+    is-known : (n : ℕ) (a : Bool) → cell 𝓜 s w c ≡ Ex o e n (Known v) a → Told s w c o e v
+
+  told-next : (s t : Tables) (r : ℕ → ℕ → ℕ) (w c o e v : ℕ) → Arrived 𝓜 s r t → Told s w c o e v → Told t w c o e v
+  told-next s t r w c o e v x (reads-on n a q ends) = go (cell 𝓜 t w c) refl (subst (λ (k : Kind). KindOn k (cell 𝓜 t w c)) q (x .on w c)) ends
+    where
+      go : (k : Kind) → cell 𝓜 t w c ≡ k → ExOn o e Reading (cell 𝓜 t w c) → EndsIn 𝓜 s (At o e) v → Told t w c o e v
+      go k i on ends = by k i (subst (ExOn o e Reading) i on)
+        where
+          live : (n′ : ℕ) (st : Status) (a′ : Bool) → cell 𝓜 t w c ≡ Ex o e n′ st a′ → EndsIn 𝓜 t (At o e) v
+          live n′ st a′ j =
+              x .ends (At o e) v
+              (subst (LivePlace 𝓜 t) (ap namedBy j) (named-place 𝓜 t (x .invariant .facts) w c))
+              ends
+
+          by : (k : Kind) → cell 𝓜 t w c ≡ k → ExOn o e Reading k → Told t w c o e v
+          by Free i on = absurd on
+          by Var i on = absurd on
+          by (Val m) i on = absurd on
+          by (Ref d) i on = absurd on
+          by (Ex o′ e′ n′ Idle a′) i on = absurd (on .2)
+          by (Ex o′ e′ n′ Reading a′) i on =
+              let j : cell 𝓜 t w c ≡ Ex o e n′ Reading a′ = i ∙ ap (λ (y : ℕ). Ex y e′ n′ Reading a′) (on .0) ∙ ap (λ (y : ℕ). Ex o y n′ Reading a′) (on .1) in
+              reads-on n′ a′ j (live n′ Reading a′ j)
+          by (Ex o′ e′ n′ (Known u) a′) i on =
+              let j : cell 𝓜 t w c ≡ Ex o e n′ (Known u) a′ = i ∙ ap (λ (y : ℕ). Ex y e′ n′ (Known u) a′) (on .0) ∙ ap (λ (y : ℕ). Ex o y n′ (Known u) a′) (on .1) in
+              let true-end : EndsIn 𝓜 t (At o e) u = subst (KnownFact 𝓜 t) j (x .invariant .known w c) in
+              let same = ends-one 𝓜 t (At o e) u v true-end (live n′ (Known u) a′ j) in
+              is-known n′ a′ (j ∙ ap (λ (y : ℕ). Ex o e n′ (Known y) a′) same)
+  told-next s t r w c o e v x (is-known n a q) = by (cell 𝓜 t w c) refl (subst (λ (k : Kind). KindOn k (cell 𝓜 t w c)) q (x .on w c))
+    where
+      by : (k : Kind) → cell 𝓜 t w c ≡ k → ExOn o e (Known v) k → Told t w c o e v
+      by Free i on = absurd on
+      by Var i on = absurd on
+      by (Val m) i on = absurd on
+      by (Ref d) i on = absurd on
+      by (Ex o′ e′ n′ Idle a′) i on = absurd (on .2)
+      by (Ex o′ e′ n′ Reading a′) i on = absurd (on .2)
+      by (Ex o′ e′ n′ (Known u) a′) i on =
+          is-known n′ a′
+          (i ∙ ap (λ (y : ℕ). Ex y e′ n′ (Known u) a′) (on .0) ∙ ap (λ (y : ℕ). Ex o y n′ (Known u) a′) (on .1) ∙ ap (λ (y : ℕ). Ex o e n′ (Known y) a′) (sym (on .2)))
+
+  told-drained : (s : Tables) (ks : List ℕ) (w c o e v : ℕ) → Invariant 𝓜 s → Told s w c o e v → Told (drained 𝓜 s ks) w c o e v
+  unfolding drained
+  told-drained s [] w c o e v I t = t
+  told-drained s (k ∷ ks) w c o e v I t = go (delivery s I k) (λ y J u. told-drained y ks w c o e v J u)
+    where
+      go : Delivery s k → ((y : Tables) → Invariant 𝓜 y → Told y w c o e v → Told (drained 𝓜 y ks) w c o e v) → Told (drained 𝓜 (deliver 𝓜 s k .after) ks) w c o e v
+      go (refused a b q) rec = subst (λ (y : Tables). Told (drained 𝓜 y ks) w c o e v) (sym q) (rec s I t)
+      go (arrives a b q) rec =
+          let x = message-arrives 𝓜 L s I (I .rank) (I .ranked) k (message s k) refl a b in
+          let next = deliverMessage 𝓜 s k (message s k) .after in
+          subst (λ (y : Tables). Told (drained 𝓜 y ks) w c o e v) (sym (ap (λ (y : Result). y .after) q))
+          (rec next (x .invariant) (told-next s next (I .rank) w c o e v x t))
+
+  -- at rest nobody on such a chain is still reading
+  told-rest : (s : Tables) (w c o e v : ℕ) → Invariant 𝓜 s → AtRest 𝓜 s → Told s w c o e v → KnownWith 𝓜 s w c o e v
+  unfolding readsOf ready
+  told-rest s w c o e v I rest (is-known n a q) = record { weight = n; asking = a; is = q }
+  told-rest s w c o e v I rest (reads-on n a q ends) =
+      let one : 1 ≤ readsOf 𝓜 s w c = omega (arith, I .facts .reads-one w c, ap (λ (k : Kind). bit (isReading k)) q) in
+      let slot = total-some (λ (y : Slot). bit (readsFor w c (y .message))) (s .slots) (record { message = Empty }) one in
+      absurd (pending (slot .0) (message s (slot .0)) refl (slot .2))
+    where
+      pending : (k : ℕ) (m : Message) → message s k ≡ m → 1 ≤ bit (readsFor w c m) → ⊥
+      pending k Empty i t = omega arith
+      pending k (Reference to o′ e′ u) i t = omega arith
+      pending k (Release o′ e′ u) i t = omega arith
+      pending k (Read r d o′ e′) i t = go (readsFor w c (Read r d o′ e′)) refl t
+        where
+          go : (b : Bool) → readsFor w c (Read r d o′ e′) ≡ b → 1 ≤ bit b → ⊥
+          go false f u = omega arith
+          go true f u =
+              let same = both-eq r w d c f in
+              let at : (m : ℕ) × ReadAhead 𝓜 s m (Read r d o′ e′) = subst (λ (y : Message). (m : ℕ) × ReadAhead 𝓜 s m y) i (I .reads k) in
+              let from : namedBy (cell 𝓜 s r d) ≡ At o e = ap (λ (y : ℕ). namedBy (cell 𝓜 s y d)) (same .0) ∙ ap (λ (y : ℕ). namedBy (cell 𝓜 s w y)) (same .1) ∙ ap namedBy q in
+              let there : ahead 𝓜 s (at .0) (At o e) ≡ At o′ e′ = sym (ap (ahead 𝓜 s (at .0)) from) ∙ at .1 in
+              let left : (not (isEmpty (Read r d o′ e′)) && ready 𝓜 s (Read r d o′ e′)) ≡ false = subst (λ (y : Message). (not (isEmpty y) && ready 𝓜 s y) ≡ false) i (rest k) in
+              on-chain 𝓜 s (At o e) (at .0) v o′ e′ ends there (unbound-left s (Read r d o′ e′) left)
+      pending k (Answer r d u) i t = absurd-bool refl (subst (λ (y : Message). (not (isEmpty y) && ready 𝓜 s y) ≡ false) i (rest k))
+      pending k (Ask x d o′ e′) i t = omega arith
+      pending k (Supply x d u) i t = omega arith
+
+  brought : Brought 𝓜
+  brought s r w c o e n v a q ends ks rest =
+      told-rest (drained 𝓜 s ks) w c o e v (reached-invariant (drained 𝓜 s ks) (reached-drained 𝓜 s ks r)) rest
+      (told-drained s ks w c o e v (reached-invariant s r) (reads-on n a q ends))
+
+  -- ---- the whole
+  pub demand-3 : Demand3 𝓜
+  demand-3 =
+      record {
+        every-sequence = λ p qs ok none. reached-run 𝓜 (start 𝓜 p .after) qs (begun p ok) none;
+        stays-sound = λ s r. is-sound s (reached-invariant s r);
+        weights = λ s r. reached-invariant s r .facts .weighed;
+        freed-at-nothing = freed;
+        no-loops = no-loops;
+        at-most-b = at-most-b;
+        ready-succeeds = λ s r ks. delivers-ready (drained 𝓜 s ks) (reached-invariant (drained 𝓜 s ks) (reached-drained 𝓜 s ks r));
+        only-unbound-reads = λ s r ks rest k. unbound-left (drained 𝓜 s ks) (message (drained 𝓜 s ks) k) (rest k);
+        brought = brought;
+      }
