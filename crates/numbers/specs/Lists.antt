@@ -1,7 +1,7 @@
 -- Tests and sums over a whole list, element by element. They say what `allBelow` and `sumBelow` say of the list's places, and are
 -- run in one pass. Assumes nothing.
-use Prim.Native.Nat.{ℕ, zero, suc, _+_}
-use mathlib.Core.Bool.{Bool, true, false, _&&_}
+use Prim.Native.Nat.{ℕ, suc, _+_}
+use mathlib.Core.Bool.{Bool, true, _&&_}
 use mathlib.Core.List.{List, [], _∷_}
 
 module _ {A : Type 0} where

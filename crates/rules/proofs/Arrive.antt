@@ -4,16 +4,14 @@ use native.Mathlib.Nat.{zero-add, suc-add, min-le-right}
 use native.Mathlib.Omega.{arith}
 use mathlib.Core.Path.{_≡_, refl, sym, ap, subst, _∙_}
 use mathlib.Core.Bool.{Bool, true, false, _&&_, _||_, not, cond}
-use mathlib.Core.List.{List, [], _∷_}
-use mathlib.Core.Logic.{_⊎_, inl, inr}
+use mathlib.Core.Logic.{inl, inr}
 use lib.Dec.{eqb, ltb, leb}
 use lib.ListN.{length, List·getD-eq-default}
-use borrow.Author.Tests.{ltb-true, ltb-false, leb-true, leb-false, eqb-true, eqb-false, eq-eqb}
-use Rattle.numbers.specs.Below.{bit, lowest}
-use Rattle.numbers.specs.Tests.{absurd-bool, or-else, and-i}
+use borrow.Author.Tests.{ltb-true, ltb-false, leb-true, leb-false, eqb-false, eq-eqb}
+use Rattle.numbers.specs.Below.{bit}
+use Rattle.numbers.specs.Tests.{absurd-bool}
 use Rattle.numbers.specs.BelowLaws.{lowest-at, lowest-past}
 use Rattle.tables.specs.declared.Slot.{Slot}
-use Rattle.tables.specs.declared.Status.{Status}
 use Rattle.tables.specs.declared.Status.the-variants.{Idle, Reading, Known}
 use Rattle.tables.specs.declared.Kind.{Kind}
 use Rattle.tables.specs.declared.Kind.the-variants.{Free, Var, Val, Ref, Ex}
@@ -24,24 +22,24 @@ use Rattle.tables.specs.declared.Message.the-variants.{Empty, Reference, Releas
 use Rattle.tables.specs.declared.Place.{Place}
 use Rattle.tables.specs.declared.Place.the-variants.{Nowhere, At}
 use Rattle.tables.specs.Machine.{Machine, Tables}
-use Rattle.tables.specs.Parts.{readingOf, isFree, isVar, isVal, isReading, isAsking, exNames, namedBy, isLive, isTainted, entryNames, entryWeight, isEmpty, goesTo}
+use Rattle.tables.specs.Parts.{isFree, isVar, isVal, isReading, isAsking, exNames, namedBy, isLive, entryNames, entryWeight, isEmpty, goesTo}
 use Rattle.tables.specs.Look.{cell, entry, end, endKind, exNaming, lowestFreeCell, booked, freeCells, message, putCell, putEntry, putMessage}
 use Rattle.rules.specs.Sound.{readsFor, asksFor, follow, messageHolds, held}
 use Rattle.rules.specs.Refusals.{entryEnd, ready, deliverRefusals}
-use Rattle.rules.specs.Deliver.{takenOff, cellOf, joined, known, supplied, grown, readOnEx, readOn, arrives, deliverHome, deliverAway, deliverRelease, deliverRead, deliverAnswer, deliverSupply, deliverAsk, deliverMessage, deliver}
+use Rattle.rules.specs.Deliver.{takenOff, joined, known, supplied, grown, readOn, arrives, deliverHome, deliverAway, deliverRelease, deliverRead, deliverAnswer, deliverSupply, deliverAsk, deliverMessage, deliver}
 use Rattle.rules.specs.Machines.{Laws}
-use Rattle.rules.specs.Facts.{CellFact, EntryFact, MessageFact, Facts, ahead, ReadAhead, EndsIn, StatusFact, KnownFact, AnswerFact}
+use Rattle.rules.specs.Facts.{EntryFact, MessageFact, ahead, ReadAhead, EndsIn, KnownFact, AnswerFact}
 use Rattle.rules.proofs.Inside.{cell-inside, entry-inside, message-total}
 use Rattle.rules.proofs.Named.{the-live, ExOf, the-ex-of, eq-both, both-eq}
-use Rattle.rules.proofs.Derived.{live-fact, held-le, held-live, ex-held, message-held, names-live, reading-cell, asking-cell, LivePlace, named-place, ahead-place}
-use Rattle.rules.specs.Change.{Change, next, Placed, Keeps, Carries, Ranked, Invariant}
+use Rattle.rules.proofs.Derived.{live-fact, held-live, message-held, names-live, reading-cell, asking-cell, LivePlace, named-place, ahead-place}
+use Rattle.rules.specs.Change.{next, Keeps, Ranked, Invariant}
 use Rattle.rules.proofs.Next.{cell-here}
 use Rattle.rules.proofs.Kept.{facts-kept}
 use Rattle.rules.proofs.Onward.{follow-live, nowhere-at, ahead-kept, ends-kept}
-use Rattle.rules.proofs.Count.{standing, standing-some, standing-falls, EndIs, plain, leads, end-is}
+use Rattle.rules.proofs.Count.{standing-some, standing-falls, EndIs, plain, leads, end-is}
 use Rattle.rules.proofs.Measure.{spends, status-same, kind-same, Arrived, arrived, arrived-cell, arrived-ex, arrived-entry}
-use Rattle.rules.proofs.Moves.{cellMove, entryMove, put-message, CellMoves, ExMoves, ex-keeps, EntryMoves, entry-keeps}
-use Rattle.rules.proofs.Steps.{Passed, after-checked, not-false, cond-add, zero-cond, free-cell, free-not-busy}
+use Rattle.rules.proofs.Moves.{cellMove, entryMove, put-message, ExMoves, ex-keeps, entry-keeps}
+use Rattle.rules.proofs.Steps.{after-checked, not-false, cond-add, free-cell, free-not-busy}
 use Rattle.rules.proofs.Local.{weight-some}
 use Rattle.rules.proofs.Entries.{cells-same, entries-same, entry-next}
 

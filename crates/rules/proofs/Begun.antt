@@ -1,11 +1,10 @@
 -- An accepted start: everything is free, and the invariant holds. Assumes nothing.
-use Prim.Native.Nat.{ℕ, zero, suc, _+_, _*_, _<_, _≤_}
+use Prim.Native.Nat.{ℕ, _+_, _*_, _≤_}
 use native.Mathlib.Omega.{arith}
 use mathlib.Core.Path.{_≡_, refl, sym, ap, subst, _∙_}
-use mathlib.Core.Bool.{Bool, true, false, _||_, cond}
-use mathlib.Core.List.{List, [], _∷_}
+use mathlib.Core.Bool.{Bool, true, false, _||_}
 use lib.Dec.{eqb, ltb}
-use lib.ListN.{length, getD, replicate, length-replicate}
+use lib.ListN.{length-replicate}
 use borrow.Author.Tests.{ltb-false}
 use Rattle.numbers.specs.Below.{bit}
 use Rattle.numbers.specs.Lists.{total}
@@ -16,24 +15,21 @@ use Rattle.tables.specs.declared.Entry.{Entry}
 use Rattle.tables.specs.declared.Slot.{Slot}
 use Rattle.tables.specs.declared.Kind.{Kind}
 use Rattle.tables.specs.declared.Kind.the-variants.{Free}
-use Rattle.tables.specs.declared.Holding.{Holding}
 use Rattle.tables.specs.declared.Holding.the-variants.{Unused}
 use Rattle.tables.specs.declared.Message.{Message}
 use Rattle.tables.specs.declared.Message.the-variants.{Empty}
 use Rattle.tables.specs.declared.Outcome.the-variants.{Done}
 use Rattle.tables.specs.declared.Refusal.the-variants.{WorkerCount}
-use Rattle.tables.specs.declared.Place.the-variants.{Nowhere, At}
+use Rattle.tables.specs.declared.Place.the-variants.{At}
 use Rattle.tables.specs.Machine.{Machine, Tables}
 use Rattle.tables.specs.Parts.{isReading, isAsking, exNames, isLive, entryNames, entryWeight, goesTo}
-use Rattle.tables.specs.Look.{cell, entry, booked, freeCells, message}
-use Rattle.rules.specs.Answers.{Check, _when_, Result, succeeds, refuse, checked}
+use Rattle.tables.specs.Look.{cell, entry, booked, message}
+use Rattle.rules.specs.Answers.{succeeds, refuse, checked}
 use Rattle.rules.specs.Sound.{readsFor, asksFor, readsOf, asksOf, follow, through, cellHolds, messageHolds, held}
-use Rattle.rules.specs.Refusals.{badCount}
 use Rattle.rules.specs.Calls.{allFree, closed, start}
-use Rattle.rules.specs.Machines.{Laws, Sized}
-use Rattle.rules.specs.Facts.{CellFact, EntryFact, MessageFact, Facts, ReadAhead, KnownFact, AnswerFact}
+use Rattle.rules.specs.Facts.{CellFact, EntryFact, MessageFact, ReadAhead, KnownFact, AnswerFact}
 use Rattle.rules.proofs.Inside.{cells-all, entries-all}
-use Rattle.rules.specs.Change.{Ranked, Invariant}
+use Rattle.rules.specs.Change.{Invariant}
 use Rattle.rules.proofs.Onward.{nowhere-at}
 
 module _ (𝓜 : Machine) (p : ℕ) where

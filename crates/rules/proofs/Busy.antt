@@ -1,8 +1,7 @@
 -- What makes a cell busy, and what names a cell that is not. Assumes nothing.
-use Prim.Native.Nat.{ℕ, _<_}
-use mathlib.Core.Path.{_≡_, refl, sym, ap, _∙_}
+use Prim.Native.Nat.{ℕ}
+use mathlib.Core.Path.{_≡_, refl, ap, _∙_}
 use mathlib.Core.Bool.{Bool, true, false, _||_}
-use lib.Dec.{eqb}
 use borrow.Author.Tests.{eq-eqb, eqb-true, ltb-true}
 use Rattle.numbers.specs.Tests.{absurd-bool, or-l, or-r, or-no}
 use Rattle.numbers.specs.Below.{lowest}

@@ -1,10 +1,9 @@
 -- Reads stay on their chains, and what is known stays true, under a change that brings what it must. Assumes nothing.
-use Prim.Native.Nat.{ℕ, zero, suc}
+use Prim.Native.Nat.{ℕ}
 use native.Mathlib.Decide.{ℕ-discrete}
 use mathlib.Core.Path.{_≡_, refl, sym, ap, subst, _∙_}
-use mathlib.Core.Bool.{Bool, true, false}
+use mathlib.Core.Bool.{true}
 use mathlib.Core.Logic.{_⊎_, inl, inr}
-use lib.Dec.{eqb}
 use borrow.Author.Tests.{eq-eqb}
 use Rattle.numbers.specs.Tests.{and-i}
 use Rattle.tables.specs.declared.Status.{Status}
@@ -16,14 +15,14 @@ use Rattle.tables.specs.declared.Message.the-variants.{Empty, Reference, Releas
 use Rattle.tables.specs.declared.Place.{Place}
 use Rattle.tables.specs.declared.Place.the-variants.{Nowhere, At}
 use Rattle.tables.specs.Machine.{Machine, Tables}
-use Rattle.tables.specs.Parts.{isReading, namedBy}
+use Rattle.tables.specs.Parts.{namedBy}
 use Rattle.tables.specs.Look.{cell, message}
 use Rattle.rules.specs.Sound.{readsFor}
 use Rattle.rules.specs.Facts.{Facts, ahead, ReadAhead, Reads, EndsIn, StatusFact, KnownFact, AnswerFact}
 use Rattle.rules.proofs.Derived.{reading-cell, LivePlace, named-place}
-use Rattle.rules.specs.Change.{Change, next, seen, Placed, Keeps, Carries}
+use Rattle.rules.specs.Change.{Change, next, Placed, Keeps, Carries}
 use Rattle.rules.proofs.Next.{spot, cell-here, cell-there, message-here, message-there}
-use Rattle.rules.proofs.Kept.{same-by, unseen-named, reading-seen, facts-kept}
+use Rattle.rules.proofs.Kept.{seen-name, reading-seen, facts-kept}
 use Rattle.rules.proofs.Onward.{ahead-kept, ends-kept}
 
 module _ (𝓜 : Machine) (s : Tables) (h : Change) (F : Facts 𝓜 s) (K : Keeps 𝓜 s h) where
@@ -33,7 +32,7 @@ module _ (𝓜 : Machine) (s : Tables) (h : Change) (F : Facts 𝓜 s) (K : Keep
   -- an EX that waits for this message names what it named
   waiting-name : (j r d : ℕ) (m : Message) → message s j ≡ m → readsFor r d m ≡ true → namedBy (cell 𝓜 (next 𝓜 s h) r d) ≡ namedBy (cell 𝓜 s r d)
   waiting-name j r d m q t =
-      same-by namedBy unseen-named (cell 𝓜 (next 𝓜 s h) r d) (cell 𝓜 s r d)
+      seen-name Nowhere (λ owner entr. At owner entr) (cell 𝓜 (next 𝓜 s h) r d) (cell 𝓜 s r d)
       (reading-seen 𝓜 s h F K r d (reading-cell 𝓜 s F j r d (ap (readsFor r d) q ∙ t)))
 
   -- ---- a message that stays

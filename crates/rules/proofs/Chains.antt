@@ -1,9 +1,9 @@
 -- A chain has one end: two values at its end are one, and a Read on a chain that ends in a value is ready. Assumes nothing.
-use Prim.Native.Nat.{ℕ, zero, suc, _+_, _-_, _<_, _≤_}
-use native.Mathlib.Decide.{ℕ-discrete, decLt}
+use Prim.Native.Nat.{ℕ, suc, _+_, _-_, _<_}
+use native.Mathlib.Decide.{decLt}
 use native.Mathlib.Omega.{arith}
-use mathlib.Core.Path.{_≡_, refl, sym, ap, subst, _∙_}
-use mathlib.Core.Bool.{Bool, true, false}
+use mathlib.Core.Path.{_≡_, refl, sym, ap, _∙_}
+use mathlib.Core.Bool.{true}
 use Rattle.numbers.specs.Tests.{absurd-bool}
 use Rattle.tables.specs.declared.Kind.{Kind}
 use Rattle.tables.specs.declared.Kind.the-variants.{Free, Var, Val, Ref, Ex}
@@ -13,7 +13,7 @@ use Rattle.tables.specs.declared.Place.{Place}
 use Rattle.tables.specs.declared.Place.the-variants.{Nowhere, At}
 use Rattle.tables.specs.Machine.{Machine, Tables}
 use Rattle.tables.specs.Parts.{isVar, namedBy}
-use Rattle.tables.specs.Look.{entry, endKind}
+use Rattle.tables.specs.Look.{entry}
 use Rattle.rules.specs.Sound.{follow, through}
 use Rattle.rules.specs.Refusals.{entryEnd}
 use Rattle.rules.specs.Facts.{ahead, EndsIn}

@@ -5,27 +5,24 @@ use native.Mathlib.Nat.{div-add-mod', mod-lt, div-lt-iff-lt-mul, mul-pos}
 use native.Mathlib.Omega.{arith}
 use mathlib.Core.Path.{_≡_, refl, sym, ap, subst, _∙_}
 use mathlib.Core.Bool.{Bool, true, false, _&&_, _||_}
-use mathlib.Core.Logic.{_⊎_, inl, inr}
 use lib.Arith.{digits-lt, digits-div, digits-mod}
 use lib.Dec.{leb}
-use lib.ListN.{length}
 use borrow.Author.Tests.{le-leb, lt-leb, leb-true}
 use Rattle.numbers.specs.Below.{sumBelow, bit, countBelow}
-use Rattle.numbers.specs.Lists.{total}
-use Rattle.numbers.specs.Tests.{absurd-bool, and-i, and-r, or-else}
+use Rattle.numbers.specs.Tests.{absurd-bool}
 use Rattle.numbers.specs.BelowLaws.{sum-mono, sum-less, count-le, term-le}
 use Rattle.numbers.specs.ListLaws.{total-below}
 use Rattle.tables.specs.declared.Entry.{Entry}
 use Rattle.tables.specs.declared.Kind.{Kind}
 use Rattle.tables.specs.declared.Kind.the-variants.{Free, Var, Val, Ref, Ex}
-use Rattle.tables.specs.declared.Holding.the-variants.{Unused, Live}
+use Rattle.tables.specs.declared.Holding.the-variants.{Unused}
 use Rattle.tables.specs.declared.Place.{Place}
 use Rattle.tables.specs.declared.Place.the-variants.{Nowhere, At}
 use Rattle.tables.specs.declared.Message.{Message}
 use Rattle.tables.specs.declared.Message.the-variants.{Empty, Reference, Release, Read, Answer, Ask, Supply}
 use Rattle.tables.specs.Machine.{Machine, Tables}
 use Rattle.tables.specs.Parts.{isFree, isVar, isVal, isEx, namedBy, isLive}
-use Rattle.tables.specs.Look.{holdingAt, cell, entry, end, endKind, liveEntries, message}
+use Rattle.tables.specs.Look.{holdingAt, cell, entry, endKind, liveEntries, message}
 use Rattle.tables.specs.Laws.{entry-in}
 use Rattle.rules.specs.Sound.{follow}
 use Rattle.rules.specs.Refusals.{entryEnd}
@@ -34,7 +31,7 @@ use Rattle.rules.specs.Facts.{CellFact, Facts, ahead, ReadAhead, Reads, 
 use Rattle.rules.proofs.Inside.{entry-inside}
 use Rattle.rules.proofs.Named.{the-live, the-ex}
 use Rattle.rules.proofs.Derived.{live-fact, LivePlace, named-place, follow-place, ahead-place}
-use Rattle.rules.specs.Change.{Ranked, Invariant}
+use Rattle.rules.specs.Change.{Ranked}
 use Rattle.rules.proofs.Kept.{end-ref, end-self}
 use Rattle.rules.proofs.Onward.{nowhere-at, ahead-nowhere, follow-live}
 

@@ -1,9 +1,8 @@
 -- What follows from the facts: ranges, live entries, weights below the ceiling, a waiting cell for each message that needs one. Assumes nothing.
-use Prim.Native.Nat.{ℕ, zero, suc, _+_, _<_, _≤_}
+use Prim.Native.Nat.{ℕ, zero, suc, _<_, _≤_}
 use native.Mathlib.Omega.{arith}
-use mathlib.Core.Path.{_≡_, refl, sym, ap, _∙_}
-use mathlib.Core.Bool.{Bool, true, false, _&&_, cond}
-use lib.Dec.{eqb}
+use mathlib.Core.Path.{_≡_, refl, ap}
+use mathlib.Core.Bool.{Bool, true, false}
 use Rattle.numbers.specs.Below.{bit}
 use Rattle.numbers.specs.Tests.{absurd-bool}
 use Rattle.tables.specs.declared.Status.{Status}
@@ -12,7 +11,6 @@ use Rattle.tables.specs.declared.Kind.the-variants.{Free, Var, Val, Ref, Ex}
 use Rattle.tables.specs.declared.Holding.{Holding}
 use Rattle.tables.specs.declared.Holding.the-variants.{Unused, Live}
 use Rattle.tables.specs.declared.Message.{Message}
-use Rattle.tables.specs.declared.Message.the-variants.{Empty, Reference, Release, Read, Answer, Ask, Supply}
 use Rattle.tables.specs.declared.Place.{Place}
 use Rattle.tables.specs.declared.Place.the-variants.{Nowhere, At}
 use Rattle.tables.specs.Machine.{Machine, Tables}
@@ -20,8 +18,8 @@ use Rattle.tables.specs.Parts.{isFree, isReading, isAsking, exNames, namedBy, i
 use Rattle.tables.specs.Look.{cell, entry, end, endKind, message}
 use Rattle.rules.specs.Sound.{readsFor, asksFor, readsOf, asksOf, follow, through, cellHolds, messageHolds, held}
 use Rattle.rules.specs.Facts.{CellFact, EntryFact, Facts, ahead}
-use Rattle.rules.proofs.Inside.{cell-inside, entry-inside, cell-total, message-total}
-use Rattle.rules.proofs.Named.{eq-both, IsLive, the-live, ExOf, the-ex-of}
+use Rattle.rules.proofs.Inside.{entry-inside, cell-total, message-total}
+use Rattle.rules.proofs.Named.{eq-both, IsLive, the-live, the-ex-of}
 
 -- a weight that is not 0 is a live entry's
 pub weight-live : (x : Holding) → 1 ≤ entryWeight x → isLive x ≡ true

@@ -1,5 +1,4 @@
 -- Demand 3 at document 01's sizes and weights, of document 01's rules: the conclusion to cite. Assumes nothing.
-use Prim.Native.Nat.{ℕ, _/_, _<_}
 use native.Mathlib.Omega.{arith}
 use Rattle.tables.specs.Machine.{eight}
 use Rattle.rules.specs.Machines.{Laws}

@@ -4,16 +4,13 @@ use native.Mathlib.Nat.{mul-pos}
 use native.Mathlib.Omega.{arith}
 use mathlib.Core.Path.{_≡_, refl, sym, ap, ap₂, _∙_}
 use mathlib.Core.Bool.{Bool, true, false, _&&_, _||_, not, cond}
-use mathlib.Core.Logic.{_≢_, ⊎-elim}
 use lib.Dec.{ltb, leb, eqb}
-use lib.ListN.{length}
 use borrow.Author.Tests.{ltb-true, ltb-false, leb-true, eqb-true, eq-eqb, not-true}
-use Rattle.numbers.specs.Below.{bit, countBelow, walkMeets}
+use Rattle.numbers.specs.Below.{bit, walkMeets}
 use Rattle.numbers.specs.Lists.{total}
-use Rattle.numbers.specs.Tests.{absurd-bool, or-else, and-l, and-r, and-i, and-3, and-4, or-true, or-left, or-right, cond-zero, not-yes}
+use Rattle.numbers.specs.Tests.{absurd-bool, and-l, and-r, and-i, and-3, and-4, or-true, or-right, cond-zero, not-yes}
 use Rattle.numbers.specs.BelowLaws.{all-at, count-unique}
 use Rattle.numbers.specs.ListLaws.{total-none}
-use Rattle.tables.specs.declared.Cell.{Cell}
 use Rattle.tables.specs.declared.Slot.{Slot}
 use Rattle.tables.specs.declared.Status.{Status}
 use Rattle.tables.specs.declared.Kind.{Kind}
@@ -25,13 +22,13 @@ use Rattle.tables.specs.declared.Message.the-variants.{Empty, Reference, Releas
 use Rattle.tables.specs.declared.Place.{Place}
 use Rattle.tables.specs.declared.Place.the-variants.{Nowhere, At}
 use Rattle.tables.specs.Machine.{Machine, Tables}
-use Rattle.tables.specs.Parts.{isFree, isVar, isEx, readingOf, isReading, isAsking, exNames, namedBy, isAt, isLive, entryNames, entryWeight, goesTo}
-use Rattle.tables.specs.Look.{kindAt, messageAt, cell, entry, endKind, safe, booked, freeCells, message}
+use Rattle.tables.specs.Parts.{isFree, readingOf, isReading, isAsking, exNames, namedBy, isAt, isLive, entryNames, entryWeight, goesTo}
+use Rattle.tables.specs.Look.{cell, entry, endKind, booked, freeCells, message}
 use Rattle.rules.specs.Sound.{readsFor, asksFor, eachCell, kindInRange, messageInRange, cellInRange, entryInRange, exesNaming, cellNames, entriesNaming, varValOrSafe, entryNamesCell, readsOf, asksOf, cellAwaited, follow, reached, messageHasIts, cellHolds, messageHolds, held, entryWeighs, roomForBooked, point1, point2, point3, point4, point5, point6, sound}
 use Rattle.rules.specs.Machines.{Laws, Sized}
 use Rattle.rules.specs.Facts.{CellFact, EntryFact, MessageFact, Facts, ahead, ReadAhead, ReadsWithin}
 use Rattle.rules.proofs.Inside.{cell-inside, entry-inside, each-cell-at, each-entry-at, each-message-at, flat-none}
-use Rattle.rules.proofs.Named.{both-eq, ExOf, the-ex-of, the-entry-of}
+use Rattle.rules.proofs.Named.{both-eq, ex-not-free, ExOf, the-ex-of, the-entry-of}
 
 -- a worker in use, where its cell is not free
 in-use : (b r : Bool) → ((b || false) && r) ≡ true → b ≡ true
@@ -142,19 +139,12 @@ module _ (𝓜 : Machine) (L : Laws 𝓜) (s : Tables) (z : Sized 𝓜 s) (h : s
       let q = ex-parts w c o e (x .weight) (x .status) (x .asking) (ap (cellNames 𝓜 s w c) (sym (x .is)) ∙ names w c) in
       (q .1, leb-true (exesNaming 𝓜 s w o e) 1 (q .3))
 
-  not-free : (o e : ℕ) (k : Kind) → exNames o e k ≡ true → isFree k ≡ false
-  not-free o e Free t = absurd-bool t refl
-  not-free o e Var t = refl
-  not-free o e (Val n) t = refl
-  not-free o e (Ref c) t = refl
-  not-free o e (Ex o′ e′ n st a) t = refl
-
   once : (w c d o e : ℕ) → exNames o e (cell 𝓜 s w c) ≡ true → exNames o e (cell 𝓜 s w d) ≡ true → c ≡ d
   unfolding exesNaming
   once w c d o e t u =
       count-unique (𝓜 .cells) c d (λ b. exNames o e (cell 𝓜 s w b)) (ex-live w c o e t .1)
-      (cell-inside 𝓜 s w c (not-free o e (cell 𝓜 s w c) t) .1)
-      (cell-inside 𝓜 s w d (not-free o e (cell 𝓜 s w d) u) .1)
+      (cell-inside 𝓜 s w c (ex-not-free (λ owner entr n st a. eqb owner o && eqb entr e) (cell 𝓜 s w c) t) .1)
+      (cell-inside 𝓜 s w d (ex-not-free (λ owner entr n st a. eqb owner o && eqb entr e) (cell 𝓜 s w d) u) .1)
       t
       u
 

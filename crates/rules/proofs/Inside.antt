@@ -3,18 +3,16 @@
 use Prim.Native.Nat.{ℕ, _+_, _*_, _/_, _%_, _<_, _≤_}
 use native.Mathlib.Nat.{mod-lt, div-lt-iff-lt-mul, div-add-mod'}
 use native.Mathlib.Omega.{arith}
-use mathlib.Core.Path.{_≡_, refl, sym, ap, _∙_}
-use mathlib.Core.Bool.{Bool, true, false, _&&_, _||_, not, cond}
-use mathlib.Core.List.{List}
+use mathlib.Core.Path.{_≡_, refl, ap, _∙_}
+use mathlib.Core.Bool.{Bool, true, false, _&&_, cond}
 use lib.Dec.{ltb}
-use lib.ListN.{length, getD, List·getD-eq-default}
+use lib.ListN.{length, List·getD-eq-default}
 use borrow.Author.Tests.{ltb-true, ltb-false}
-use Rattle.numbers.specs.Lists.{each, total}
+use Rattle.numbers.specs.Lists.{total}
 use Rattle.numbers.specs.Tests.{absurd-bool}
 use Rattle.numbers.specs.ListLaws.{each-at, each-of, total-at, total-none}
 use Rattle.numbers.specs.Grid.{grid-at, grid-of}
 use Rattle.tables.specs.declared.Cell.{Cell}
-use Rattle.tables.specs.declared.Entry.{Entry}
 use Rattle.tables.specs.declared.Slot.{Slot}
 use Rattle.tables.specs.declared.Kind.{Kind}
 use Rattle.tables.specs.declared.Kind.the-variants.{Free}
@@ -24,7 +22,7 @@ use Rattle.tables.specs.declared.Message.{Message}
 use Rattle.tables.specs.declared.Message.the-variants.{Empty}
 use Rattle.tables.specs.Machine.{Machine, Tables}
 use Rattle.tables.specs.Parts.{isFree, isLive}
-use Rattle.tables.specs.Look.{kindAt, holdingAt, messageAt, cell, entry, message}
+use Rattle.tables.specs.Look.{kindAt, holdingAt, cell, entry, message}
 use Rattle.tables.specs.Laws.{cell-in, entry-in}
 use Rattle.rules.specs.Sound.{eachCell, eachEntry, eachMessage}
 use Rattle.rules.specs.Machines.{Laws, Sized}

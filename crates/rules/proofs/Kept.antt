@@ -1,73 +1,45 @@
 -- The facts of a sound state stay under a change that keeps what it must. Assumes nothing.
-use Prim.Native.Nat.{ℕ, zero, suc, _+_, _*_, _<_, _≤_}
+use Prim.Native.Nat.{ℕ}
 use native.Mathlib.Decide.{ℕ-discrete}
 use native.Mathlib.Omega.{arith}
-use mathlib.Core.Path.{_≡_, refl, sym, ap, ap₂, subst, _∙_}
+use mathlib.Core.Path.{_≡_, refl, sym, ap, subst, _∙_}
 use mathlib.Core.Bool.{Bool, true, false, _&&_, _||_, not, cond}
-use mathlib.Core.Logic.{_⊎_, inl, inr, _≢_}
+use mathlib.Core.Logic.{_⊎_, inl, inr}
 use lib.Dec.{eqb, ltb}
-use lib.ListN.{length}
 use borrow.Author.Tests.{eq-eqb}
 use Rattle.numbers.specs.Below.{bit}
-use Rattle.numbers.specs.Lists.{total}
-use Rattle.numbers.specs.Tests.{absurd-bool, and-l, and-r, and-i, or-l, or-r, or-left, or-right}
+use Rattle.numbers.specs.Tests.{absurd-bool, and-l, and-r, and-i, or-l, or-r}
 use Rattle.numbers.specs.ListLaws.{total-cong}
 use Rattle.tables.specs.declared.Slot.{Slot}
-use Rattle.tables.specs.declared.Status.{Status}
 use Rattle.tables.specs.declared.Kind.{Kind}
 use Rattle.tables.specs.declared.Kind.the-variants.{Free, Var, Val, Ref, Ex}
 use Rattle.tables.specs.declared.Holding.{Holding}
 use Rattle.tables.specs.declared.Holding.the-variants.{Unused, Live}
 use Rattle.tables.specs.declared.Message.{Message}
 use Rattle.tables.specs.declared.Message.the-variants.{Empty, Reference, Release, Read, Answer, Ask, Supply}
-use Rattle.tables.specs.declared.Place.{Place}
-use Rattle.tables.specs.declared.Place.the-variants.{Nowhere, At}
 use Rattle.tables.specs.Machine.{Machine, Tables}
-use Rattle.tables.specs.Parts.{isFree, isVar, isVal, isEx, isReading, isAsking, exNames, namedBy, endFrom, isLive, isTainted, entryNames, entryWeight, goesTo}
-use Rattle.tables.specs.Look.{cell, entry, end, endKind, safe, exported, referred, busy, booked, freeCells, message}
-use Rattle.rules.specs.Sound.{readsFor, asksFor, varValOrSafe, readsOf, asksOf, follow, through, cellHolds, messageHolds, held}
+use Rattle.tables.specs.Parts.{onEx, readingOf, isFree, isVar, isVal, isEx, isReading, isAsking, exNames, endFrom, isLive, isTainted, entryNames, entryWeight, goesTo}
+use Rattle.tables.specs.Look.{cell, entry, end, endKind, safe, exported, busy, booked, message}
+use Rattle.rules.specs.Sound.{readsFor, asksFor, varValOrSafe, readsOf, asksOf, cellHolds, messageHolds, held}
 use Rattle.rules.specs.Deliver.{cellOf}
-use Rattle.rules.specs.Facts.{CellFact, EntryFact, MessageFact, Facts, ahead, ReadAhead, Reads}
-use Rattle.rules.proofs.Named.{the-live, IsLive, the-ex, IsEx, the-entry-of}
+use Rattle.rules.specs.Facts.{CellFact, EntryFact, MessageFact, Facts}
+use Rattle.rules.proofs.Named.{ex-not-var, the-ex}
 use Rattle.rules.proofs.Busy.{exported-by, referred-by, busy-exported, busy-referred, busy-reading, busy-asking}
-use Rattle.rules.proofs.Derived.{ex-live, reading-cell, asking-cell, LivePlace, named-place}
+use Rattle.rules.proofs.Derived.{ex-live, asking-cell}
 use Rattle.rules.specs.Change.{Change, next, seen, Placed, VarBecomes, stays, bound, Keeps}
 use Rattle.rules.proofs.Next.{spot, cell-here, cell-there, entry-here, entry-there, message-here, message-there, next-sized, at-cell, at-entry, cells-total, slots-total, free-count}
 
 -- ---- cells that look the same to others
-same-names : (a b : ℕ) (j k : Kind) → seen j ≡ seen k → exNames a b j ≡ exNames a b k
-same-names a b j k q = sym (unseen j) ∙ ap (exNames a b) q ∙ unseen k
+-- what an EX's name says is the same of cells that look the same
+pub seen-name : {X : Type 0} (d : X) (f : ℕ → ℕ → X) (j k : Kind) → seen j ≡ seen k → onEx d (λ o e n st a. f o e) j ≡ onEx d (λ o e n st a. f o e) k
+seen-name d f j k q = sym (unseen j) ∙ ap (onEx d (λ o e n st a. f o e)) q ∙ unseen k
   where
-    unseen : (y : Kind) → exNames a b (seen y) ≡ exNames a b y
+    unseen : (y : Kind) → onEx d (λ o e n st a. f o e) (seen y) ≡ onEx d (λ o e n st a. f o e) y
     unseen Free = refl
     unseen Var = refl
     unseen (Val n) = refl
-    unseen (Ref d) = refl
-    unseen (Ex o e n st t) = refl
-
-pub same-by : {X : Type 0} (f : Kind → X) → ((y : Kind) → f (seen y) ≡ f y) → (j k : Kind) → seen j ≡ seen k → f j ≡ f k
-same-by f u j k q = sym (u j) ∙ ap f q ∙ u k
-
-unseen-free : (y : Kind) → isFree (seen y) ≡ isFree y
-unseen-free Free = refl
-unseen-free Var = refl
-unseen-free (Val n) = refl
-unseen-free (Ref d) = refl
-unseen-free (Ex o e n st a) = refl
-
-unseen-ex : (y : Kind) → isEx (seen y) ≡ isEx y
-unseen-ex Free = refl
-unseen-ex Var = refl
-unseen-ex (Val n) = refl
-unseen-ex (Ref d) = refl
-unseen-ex (Ex o e n st a) = refl
-
-pub unseen-named : (y : Kind) → namedBy (seen y) ≡ namedBy y
-unseen-named Free = refl
-unseen-named Var = refl
-unseen-named (Val n) = refl
-unseen-named (Ref d) = refl
-unseen-named (Ex o e n st a) = refl
+    unseen (Ref c) = refl
+    unseen (Ex o e n st a) = refl
 
 -- a cell that looks like a REF, or like an EX, is one
 pub seen-ref : (j : Kind) (d : ℕ) → seen j ≡ Ref d → j ≡ Ref d
@@ -111,37 +83,16 @@ module _ (𝓜 : Machine) (s : Tables) (h : Change) (F : Facts 𝓜 s) (K : Keep
           rw (← q .0, ← q .1, cell-here 𝓜 s h (F .sized) P, P .old-cell) (K .busy-kept b′ nv′)
       go (inr f) = ap seen (cell-there 𝓜 s h (F .sized) (K .placed) v d f)
 
-  asking-no-var : (k : Kind) → isAsking k ≡ true → isVar k ≡ false
-  asking-no-var Free t = refl
-  asking-no-var Var t = absurd-bool t refl
-  asking-no-var (Val n) t = refl
-  asking-no-var (Ref d) t = refl
-  asking-no-var (Ex o e n st a) t = refl
-
-  reading-no-var : (k : Kind) → isReading k ≡ true → isVar k ≡ false
-  reading-no-var Free t = refl
-  reading-no-var Var t = absurd-bool t refl
-  reading-no-var (Val n) t = refl
-  reading-no-var (Ref d) t = refl
-  reading-no-var (Ex o e n st a) t = refl
-
-  ex-no-var : (k : Kind) → isEx k ≡ true → isVar k ≡ false
-  ex-no-var Free t = refl
-  ex-no-var Var t = absurd-bool t refl
-  ex-no-var (Val n) t = refl
-  ex-no-var (Ref d) t = refl
-  ex-no-var (Ex o e n st a) t = refl
-
   asking-seen : (v d : ℕ) → isAsking (cell 𝓜 s v d) ≡ true → seen (cell 𝓜 s′ v d) ≡ seen (cell 𝓜 s v d)
   unfolding s′
-  asking-seen v d t = seen-kept v d (busy-asking 𝓜 s v d t) (asking-no-var (cell 𝓜 s v d) t)
+  asking-seen v d t = seen-kept v d (busy-asking 𝓜 s v d t) (ex-not-var (λ o e n st a. a) (cell 𝓜 s v d) t)
 
   pub reading-seen : (v d : ℕ) → isReading (cell 𝓜 s v d) ≡ true → seen (cell 𝓜 (next 𝓜 s h) v d) ≡ seen (cell 𝓜 s v d)
-  reading-seen v d t = seen-kept v d (busy-reading 𝓜 s v d t) (reading-no-var (cell 𝓜 s v d) t)
+  reading-seen v d t = seen-kept v d (busy-reading 𝓜 s v d t) (ex-not-var (λ o e n st a. readingOf st) (cell 𝓜 s v d) t)
 
   -- an EX that a REF names looks the same
   pub referred-seen : (v d y : ℕ) → cell 𝓜 s v d ≡ Ref y → isEx (cell 𝓜 s v y) ≡ true → seen (cell 𝓜 (next 𝓜 s h) v y) ≡ seen (cell 𝓜 s v y)
-  referred-seen v d y q t = seen-kept v y (busy-referred 𝓜 s v y (referred-by 𝓜 s v y d q)) (ex-no-var (cell 𝓜 s v y) t)
+  referred-seen v d y q t = seen-kept v y (busy-referred 𝓜 s v y (referred-by 𝓜 s v y d q)) (ex-not-var (λ o e n st a. true) (cell 𝓜 s v y) t)
 
   -- ---- weights
   -- a message that stays holds what it held
@@ -154,7 +105,7 @@ module _ (𝓜 : Machine) (s : Tables) (h : Change) (F : Facts 𝓜 s) (K : Keep
   holds-same a b j (Ask r d o e) q = refl
   holds-same a b j (Supply r d n) q =
       let t = asking-cell 𝓜 s F j r d (ap (asksFor r d) q ∙ and-i (eq-eqb r r refl) (eq-eqb d d refl)) in
-      ap (λ (z : Bool). cond z n 0) (same-names a b (cell 𝓜 s′ r d) (cell 𝓜 s r d) (asking-seen r d t))
+      ap (λ (z : Bool). cond z n 0) (seen-name false (λ owner entr. eqb owner a && eqb entr b) (cell 𝓜 s′ r d) (cell 𝓜 s r d) (asking-seen r d t))
 
   holds-new : (a b : ℕ) → messageHolds 𝓜 s′ a b (h .m) ≡ messageHolds 𝓜 s a b (h .m)
   unfolding s′
@@ -189,7 +140,7 @@ module _ (𝓜 : Machine) (s : Tables) (h : Change) (F : Facts 𝓜 s) (K : Keep
   cell-kept v d Var q f = f
   cell-kept v d (Val n) q f = f
   cell-kept v d (Ref y) q f =
-      (f .0, same-by isEx unseen-ex (cell 𝓜 s′ v y) (cell 𝓜 s v y) (referred-seen v d y q (f .1)) ∙ f .1)
+      (f .0, seen-name false (λ owner entr. true) (cell 𝓜 s′ v y) (cell 𝓜 s v y) (referred-seen v d y q (f .1)) ∙ f .1)
   cell-kept v d (Ex o e n st a) q f = f
 
   cells′ : (v d : ℕ) → CellFact 𝓜 s′ v (cell 𝓜 s′ v d)
@@ -334,7 +285,7 @@ module _ (𝓜 : Machine) (s : Tables) (h : Change) (F : Facts 𝓜 s) (K : Keep
           only-safe (Ex o e n st w) a b = b
       go (Ex o e n st a) q t =
           let same = looks (ap isVar q) in
-          let ex : isEx (cell 𝓜 s′ v d) ≡ true = same-by isEx unseen-ex (cell 𝓜 s′ v d) (cell 𝓜 s v d) same ∙ ap isEx q in
+          let ex : isEx (cell 𝓜 s′ v d) ≡ true = seen-name false (λ owner entr. true) (cell 𝓜 s′ v d) (cell 𝓜 s v d) same ∙ ap isEx q in
           let r = the-ex (cell 𝓜 s′ v d) ex in
           let k′ = Ex (r .owner) (r .entry) (r .weight) (r .status) (r .asking) in
           let was : varValOrSafe 𝓜 s v (endKind 𝓜 s v d) ≡ true → safe 𝓜 s v (cell 𝓜 s v d) ≡ true = λ g. ap (safe 𝓜 s v) q ∙ sym (ap (varValOrSafe 𝓜 s v) (end-self 𝓜 s v d (Ex o e n st a) q refl)) ∙ g in
@@ -376,7 +327,7 @@ module _ (𝓜 : Machine) (s : Tables) (h : Change) (F : Facts 𝓜 s) (K : Keep
   message-kept j (Answer r d n) q f = tt
   message-kept j (Ask r d o e) q f =
       let t = asking-cell 𝓜 s F j r d (ap (asksFor r d) q ∙ and-i (eq-eqb r r refl) (eq-eqb d d refl)) in
-      same-names o e (cell 𝓜 s′ r d) (cell 𝓜 s r d) (asking-seen r d t) ∙ f
+      seen-name false (λ owner entr. eqb owner o && eqb entr e) (cell 𝓜 s′ r d) (cell 𝓜 s r d) (asking-seen r d t) ∙ f
   message-kept j (Supply r d n) q f = tt
 
   messages′ : (j : ℕ) → MessageFact 𝓜 s′ (message s′ j)

@@ -1,14 +1,13 @@
 -- The calls that change one cell: new, set, bind, and the freeing of a cell by drop or transfer. Assumes nothing.
-use Prim.Native.Nat.{ℕ, zero, suc, _+_, _-_, _<_, _≤_}
+use Prim.Native.Nat.{ℕ, _+_, _<_, _≤_}
 use native.Mathlib.Omega.{arith}
 use mathlib.Core.Path.{_≡_, refl, sym, ap, subst, _∙_}
-use mathlib.Core.Bool.{Bool, true, false, _&&_, _||_, not, cond}
-use mathlib.Core.List.{List, [], _∷_, _++_}
-use mathlib.Core.Logic.{_⊎_, inl, inr, _≢_}
-use lib.Dec.{eqb, ltb, leb}
+use mathlib.Core.Bool.{Bool, true, false, _&&_, not, cond}
+use mathlib.Core.Logic.{_⊎_, inl, inr}
+use lib.Dec.{eqb, leb}
 use borrow.Author.Tests.{leb-false, eqb-true}
 use Rattle.numbers.specs.Below.{bit}
-use Rattle.numbers.specs.Tests.{absurd-bool, and-i, not-yes}
+use Rattle.numbers.specs.Tests.{absurd-bool}
 use Rattle.tables.specs.declared.Status.{Status}
 use Rattle.tables.specs.declared.Kind.{Kind}
 use Rattle.tables.specs.declared.Kind.the-variants.{Free, Var, Val, Ref, Ex}
@@ -16,22 +15,21 @@ use Rattle.tables.specs.declared.Message.{Message}
 use Rattle.tables.specs.declared.Message.the-variants.{Empty, Reference, Release}
 use Rattle.tables.specs.declared.Outcome.the-variants.{Done}
 use Rattle.tables.specs.Machine.{Machine, Tables}
-use Rattle.tables.specs.Parts.{onEx, readingOf, isFree, isVar, isEx, isReading, isAsking, exNames, goesTo}
+use Rattle.tables.specs.Parts.{readingOf, isFree, isEx, isReading, isAsking, goesTo}
 use Rattle.tables.specs.Look.{cell, entry, end, endKind, safe, exported, busy, lowestFreeCell, lowestEmptySlot, booked, freeCells, message, putCell, putMessage}
-use Rattle.rules.specs.Answers.{Result, checked}
+use Rattle.rules.specs.Answers.{Result}
 use Rattle.rules.specs.Sound.{readsFor, asksFor, cellHolds, messageHolds}
-use Rattle.rules.specs.Refusals.{newRefusals, setRefusals, bindRefusals, transferRefusals, sendRefusals, roomRefusals, dropRefusals}
+use Rattle.rules.specs.Refusals.{newRefusals, setRefusals, bindRefusals, transferRefusals, dropRefusals}
 use Rattle.rules.specs.Calls.{new, set, bind, transfer, drop, sendsWhole, releases}
 use Rattle.rules.specs.Machines.{Laws}
-use Rattle.rules.specs.Facts.{CellFact, MessageFact, Facts, ReadAhead, KnownFact, AnswerFact}
+use Rattle.rules.specs.Facts.{CellFact, MessageFact, ReadAhead, AnswerFact}
 use Rattle.rules.proofs.Inside.{cell-inside}
-use Rattle.rules.proofs.Named.{the-ex}
+use Rattle.rules.proofs.Named.{the-ex, not-on-ex}
 use Rattle.rules.proofs.Busy.{idle-parts}
-use Rattle.rules.proofs.Derived.{cell-used}
-use Rattle.rules.specs.Change.{Change, next, seen, Placed, VarBecomes, stays, bound, Carries, Invariant}
+use Rattle.rules.specs.Change.{next, Placed, VarBecomes, stays, bound, Invariant}
 use Rattle.rules.proofs.Next.{cell-there}
 use Rattle.rules.proofs.Moves.{cellMove, CellMoves}
-use Rattle.rules.proofs.Steps.{Passed, after-checked, passed-both, not-false, var-is, zero-cond, free-cell, empty-slot, has-room, room-sent, room-same, free-not-busy, stays-cell, stays-cell-message}
+use Rattle.rules.proofs.Steps.{after-checked, not-false, var-is, zero-cond, free-cell, empty-slot, has-room, room-sent, room-same, free-not-busy, stays-cell, stays-cell-message}
 
 -- a message that carries the weight n of the entry e of worker o, and is no Read, Answer, Ask or Supply
 pub record Sends (𝓜 : Machine) (s : Tables) (o e n : ℕ) (m : Message) : Type 0 where
@@ -108,42 +106,14 @@ module _ (𝓜 : Machine) (L : Laws 𝓜) (s : Tables) (I : Invariant 𝓜 s) wh
         message-ok = inl refl;
         busy-kept = λ b v. absurd-bool refl v;
         var-kept = λ x v. becomes x;
-        ex-new = λ d a b t y. absurd (no-names k ne a b t);
-        reads = λ v d. ap (λ (z : Bool). bit (readsFor v d (message s 0)) + cond (eqb w v && eqb c d) (bit z) 0) (sym (no-reading k ne));
-        asks = λ v d. ap (λ (z : Bool). bit (asksFor v d (message s 0)) + cond (eqb w v && eqb c d) (bit z) 0) (sym (no-asking k ne));
-        weights = λ a b. omega (arith, no-weight k ne a b);
+        ex-new = λ d a b t y. absurd-bool t (not-on-ex false (λ owner entr n st z. eqb owner a && eqb entr b) k ne);
+        reads = λ v d. ap (λ (z : Bool). bit (readsFor v d (message s 0)) + cond (eqb w v && eqb c d) (bit z) 0) (sym (not-on-ex false (λ o e n st z. readingOf st) k ne));
+        asks = λ v d. ap (λ (z : Bool). bit (asksFor v d (message s 0)) + cond (eqb w v && eqb c d) (bit z) 0) (sym (not-on-ex false (λ o e n st z. z) k ne));
+        weights = λ a b. omega (arith, not-on-ex 0 (λ owner entr n st z. cond (eqb owner a && eqb entr b) n 0) k ne);
         holds-ok = inl refl;
         room = λ v. let e = ap bit nf in zeroes v (eqb w v) (bit (isFree k)) e;
       }
     where
-      no-names : (k : Kind) → isEx k ≡ false → (a b : ℕ) → exNames a b k ≡ true → ⊥
-      no-names Free e a b t = absurd-bool t refl
-      no-names Var e a b t = absurd-bool t refl
-      no-names (Val n) e a b t = absurd-bool t refl
-      no-names (Ref d) e a b t = absurd-bool t refl
-      no-names (Ex o y n st z) e a b t = absurd-bool refl e
-
-      no-reading : (k : Kind) → isEx k ≡ false → isReading k ≡ false
-      no-reading Free e = refl
-      no-reading Var e = refl
-      no-reading (Val n) e = refl
-      no-reading (Ref d) e = refl
-      no-reading (Ex o y n st z) e = absurd-bool refl e
-
-      no-asking : (k : Kind) → isEx k ≡ false → isAsking k ≡ false
-      no-asking Free e = refl
-      no-asking Var e = refl
-      no-asking (Val n) e = refl
-      no-asking (Ref d) e = refl
-      no-asking (Ex o y n st z) e = absurd-bool refl e
-
-      no-weight : (k : Kind) → isEx k ≡ false → (a b : ℕ) → cellHolds 𝓜 s a b k ≡ 0
-      no-weight Free e a b = refl
-      no-weight Var e a b = refl
-      no-weight (Val n) e a b = refl
-      no-weight (Ref d) e a b = refl
-      no-weight (Ex o y n st z) e a b = absurd-bool refl e
-
       zeroes : (v : ℕ) (t : Bool) (n : ℕ) → n ≡ 0 → booked s v + bit (goesTo v (message s 0)) + cond t 0 0 ≤ freeCells 𝓜 s v + bit (goesTo v (message s 0)) + cond t n 0
       zeroes v true n e = omega (arith, I .facts .room v)
       zeroes v false n e = omega (arith, I .facts .room v)

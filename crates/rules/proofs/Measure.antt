@@ -1,13 +1,13 @@
 -- What is still to be delivered, measured by a rank of the entries: at most B, and lower after each delivery. Assumes nothing.
-use Prim.Native.Nat.{ℕ, zero, suc, _+_, _*_, _/_, _%_, _<_, _≤_}
+use Prim.Native.Nat.{ℕ, _+_, _*_, _/_, _%_, _<_, _≤_}
 use native.Mathlib.Omega.{arith}
 use mathlib.Core.Path.{_≡_, refl, sym, ap, ap₂, subst, _∙_}
 use mathlib.Core.Bool.{Bool, true, false, _&&_}
 use mathlib.Core.Logic.{_⊎_, inl, inr}
 use lib.Dec.{leb}
-use Rattle.numbers.specs.Below.{bit, countBelow}
+use Rattle.numbers.specs.Below.{bit}
 use Rattle.numbers.specs.Lists.{total}
-use Rattle.numbers.specs.Tests.{absurd-bool, or-else}
+use Rattle.numbers.specs.Tests.{absurd-bool}
 use Rattle.numbers.specs.BelowLaws.{sum-mono}
 use Rattle.numbers.specs.ListLaws.{total-mono}
 use Rattle.tables.specs.declared.Slot.{Slot}
@@ -33,7 +33,7 @@ use Rattle.rules.proofs.Onward.{ends-kept}
 use Rattle.rules.proofs.Rank.{was-or-new}
 use Rattle.rules.proofs.Stays.{invariant-kept, rank-kept}
 use Rattle.rules.proofs.Count.{standsAt, standing, standing-live}
-use Rattle.rules.proofs.Moves.{cellMove, entryMove, put-cell-message, put-entry-message, put-message, CellMoves, cell-keeps, ExMoves, ex-keeps, EntryMoves, entry-keeps}
+use Rattle.rules.proofs.Moves.{cellMove, entryMove, put-cell-message, put-entry-message, CellMoves, cell-keeps, ExMoves, ex-keeps, EntryMoves, entry-keeps}
 
 -- what a message may still take: a Read one for itself, and one for each live entry that stands at most as high as its own
 abbrev pub spends : Machine → Tables → (ℕ → ℕ → ℕ) → Message → ℕ

@@ -1,13 +1,13 @@
 -- The changes that calls make: of a cell and a slot, or of an entry and a slot. What is left to show of each, once what it leaves alone is
 -- taken off. Assumes nothing.
-use Prim.Native.Nat.{ℕ, zero, suc, _+_, _*_, _<_, _≤_}
+use Prim.Native.Nat.{ℕ, _+_, _*_, _<_, _≤_}
 use native.Mathlib.Omega.{arith}
-use mathlib.Core.Path.{_≡_, refl, sym, ap, ap₂, subst, _∙_}
+use mathlib.Core.Path.{_≡_, refl, ap, ap₂, subst, _∙_}
 use mathlib.Core.Bool.{Bool, true, false, _&&_, _||_, cond}
 use mathlib.Core.List.{List}
-use mathlib.Core.Logic.{_⊎_, inl, inr, _≢_}
-use lib.Dec.{eqb, ltb}
-use lib.ListN.{getD, set}
+use mathlib.Core.Logic.{_⊎_, inl, inr}
+use lib.Dec.{eqb}
+use lib.ListN.{set}
 use lib.Seq.{set-getD}
 use borrow.Author.Tests.{lt-ltb}
 use Rattle.numbers.specs.Below.{bit}
@@ -17,23 +17,21 @@ use Rattle.tables.specs.declared.Entry.{Entry}
 use Rattle.tables.specs.declared.Slot.{Slot}
 use Rattle.tables.specs.declared.Status.{Status}
 use Rattle.tables.specs.declared.Kind.{Kind}
-use Rattle.tables.specs.declared.Kind.the-variants.{Free, Var, Val, Ref, Ex}
+use Rattle.tables.specs.declared.Kind.the-variants.{Free, Ex}
 use Rattle.tables.specs.declared.Holding.{Holding}
-use Rattle.tables.specs.declared.Holding.the-variants.{Unused, Live}
+use Rattle.tables.specs.declared.Holding.the-variants.{Unused}
 use Rattle.tables.specs.declared.Message.{Message}
 use Rattle.tables.specs.declared.Message.the-variants.{Empty}
-use Rattle.tables.specs.declared.Place.the-variants.{At}
 use Rattle.tables.specs.Machine.{Machine, Tables}
 use Rattle.tables.specs.Parts.{readingOf, isFree, isVar, isVal, isReading, isAsking, exNames, isLive, isTainted, entryNames, entryWeight, goesTo}
-use Rattle.tables.specs.Look.{kindAt, holdingAt, cell, entry, exported, busy, booked, freeCells, message, putCell, putEntry, putMessage}
+use Rattle.tables.specs.Look.{cell, entry, exported, busy, booked, freeCells, message, putCell, putEntry, putMessage}
 use Rattle.tables.specs.Laws.{cell-in, entry-in}
 use Rattle.rules.specs.Sound.{readsFor, asksFor, cellHolds, messageHolds}
 use Rattle.rules.specs.Deliver.{cellOf}
-use Rattle.rules.specs.Machines.{Laws, Sized}
-use Rattle.rules.specs.Facts.{CellFact, EntryFact, MessageFact, Facts, ReadAhead, StatusFact, KnownFact, AnswerFact}
+use Rattle.rules.specs.Machines.{Laws}
+use Rattle.rules.specs.Facts.{CellFact, EntryFact, MessageFact, Facts}
 use Rattle.rules.proofs.Inside.{cell-inside}
-use Rattle.rules.specs.Change.{Change, next, seen, Placed, VarBecomes, stays, Keeps, Carries, Invariant}
-use Rattle.rules.proofs.Stays.{invariant-kept}
+use Rattle.rules.specs.Change.{Change, next, seen, VarBecomes, stays, Keeps}
 
 -- a change of the cell c of worker w and of the slot i; the entry that stands first is left as it is
 abbrev pub cellMove : Machine → Tables → ℕ → ℕ → Kind → Kind → ℕ → Message → Message → Change

@@ -1,6 +1,6 @@
 -- From a test of one part to the part itself: an EX that names an entry, an entry that names a cell. Assumes nothing.
 use Prim.Native.Nat.{ℕ}
-use mathlib.Core.Path.{_≡_, refl, sym, ap, _∙_}
+use mathlib.Core.Path.{_≡_, refl, ap}
 use mathlib.Core.Bool.{Bool, true, false, _&&_}
 use lib.Dec.{eqb}
 use borrow.Author.Tests.{eqb-true, eq-eqb}
@@ -10,7 +10,7 @@ use Rattle.tables.specs.declared.Kind.{Kind}
 use Rattle.tables.specs.declared.Kind.the-variants.{Free, Var, Val, Ref, Ex}
 use Rattle.tables.specs.declared.Holding.{Holding}
 use Rattle.tables.specs.declared.Holding.the-variants.{Unused, Live}
-use Rattle.tables.specs.Parts.{isFree, isEx, exNames, isLive, entryNames}
+use Rattle.tables.specs.Parts.{onEx, isFree, isVar, isEx, exNames, isLive, entryNames}
 
 -- two numbers tested at once
 pub both-eq : (a b c d : ℕ) → (eqb a b && eqb c d) ≡ true → (a ≡ b) × (c ≡ d)
@@ -28,12 +28,30 @@ pub record IsEx (k : Kind) : Type 0 where
   pub asking : Bool
   pub is : k ≡ Ex owner entry weight status asking
 
+-- a test that only an EX can meet
+pub on-ex : (f : ℕ → ℕ → ℕ → Status → Bool → Bool) (k : Kind) → onEx false f k ≡ true → IsEx k
+on-ex f Free h = absurd-bool h refl
+on-ex f Var h = absurd-bool h refl
+on-ex f (Val n) h = absurd-bool h refl
+on-ex f (Ref c) h = absurd-bool h refl
+on-ex f (Ex o e n st a) h = record { owner = o; entry = e; weight = n; status = st; asking = a; is = refl }
+
 pub the-ex : (k : Kind) → isEx k ≡ true → IsEx k
-the-ex Free h = absurd-bool h refl
-the-ex Var h = absurd-bool h refl
-the-ex (Val n) h = absurd-bool h refl
-the-ex (Ref c) h = absurd-bool h refl
-the-ex (Ex o e n st a) h = record { owner = o; entry = e; weight = n; status = st; asking = a; is = refl }
+the-ex k h = on-ex (λ o e n st a. true) k h
+
+pub not-on-ex : {X : Type 0} (d : X) (f : ℕ → ℕ → ℕ → Status → Bool → X) (k : Kind) → isEx k ≡ false → onEx d f k ≡ d
+not-on-ex d f Free h = refl
+not-on-ex d f Var h = refl
+not-on-ex d f (Val n) h = refl
+not-on-ex d f (Ref c) h = refl
+not-on-ex d f (Ex o e n st a) h = absurd-bool refl h
+
+-- such a cell is neither free nor a VAR
+pub ex-not-free : (f : ℕ → ℕ → ℕ → Status → Bool → Bool) (k : Kind) → onEx false f k ≡ true → isFree k ≡ false
+ex-not-free f k h = ap isFree (on-ex f k h .is)
+
+pub ex-not-var : (f : ℕ → ℕ → ℕ → Status → Bool → Bool) (k : Kind) → onEx false f k ≡ true → isVar k ≡ false
+ex-not-var f k h = ap isVar (on-ex f k h .is)
 
 -- an EX that names the entry e of worker o
 pub record ExOf (o e : ℕ) (k : Kind) : Type 0 where

@@ -1,19 +1,18 @@
 -- What stands in the tables after a change, and the sums over them. Assumes nothing.
-use Prim.Native.Nat.{ℕ, _+_, _*_, _<_, _≤_}
+use Prim.Native.Nat.{ℕ, _+_, _*_, _<_}
 use native.Mathlib.Decide.{ℕ-discrete}
 use native.Mathlib.Omega.{arith}
 use mathlib.Core.Path.{_≡_, refl, sym, ap, _∙_}
 use mathlib.Core.Bool.{Bool, true, false, _&&_, cond}
-use mathlib.Core.List.{List}
 use mathlib.Core.Logic.{_⊎_, inl, inr, _≢_}
 use lib.Arith.{digits-lt}
 use lib.Dec.{eqb, ltb}
-use lib.ListN.{length, getD, set, length-set}
+use lib.ListN.{length, length-set}
 use lib.Seq.{getD-set-same, getD-set-other}
-use borrow.Author.Tests.{eqb-true, eqb-false, eq-eqb, ne-eqb, ltb-true}
-use Rattle.numbers.specs.Below.{sumBelow, bit}
+use borrow.Author.Tests.{eqb-true, eqb-false, eq-eqb, ltb-true}
+use Rattle.numbers.specs.Below.{bit}
 use Rattle.numbers.specs.Lists.{total}
-use Rattle.numbers.specs.Tests.{absurd-bool, and-l, and-r, and-i, not-yes}
+use Rattle.numbers.specs.Tests.{and-r, and-i, not-yes}
 use Rattle.numbers.specs.BelowLaws.{sum-cong, sum-point}
 use Rattle.numbers.specs.ListLaws.{total-set}
 use Rattle.numbers.specs.Grid.{grid-row, grid-column}

@@ -1,37 +1,32 @@
 -- What a change keeps of chains: a step from an entry that is live before and after stays, an end that is a value stays, and a new step leads
 -- from a VAR that was bound to a safe EX, or from a new entry. Assumes nothing.
-use Prim.Native.Nat.{ℕ, zero, suc, _+_, _<_, _≤_}
-use native.Mathlib.Decide.{ℕ-discrete}
+use Prim.Native.Nat.{ℕ, zero, suc}
 use native.Mathlib.Omega.{arith}
 use mathlib.Core.Path.{_≡_, refl, sym, ap, subst, _∙_}
 use mathlib.Core.Bool.{Bool, true, false, _||_}
-use mathlib.Core.Logic.{_⊎_, inl, inr, _≢_}
-use lib.Dec.{eqb}
+use mathlib.Core.Logic.{_⊎_, inl, inr}
 use borrow.Author.Tests.{eq-eqb}
-use Rattle.numbers.specs.Tests.{absurd-bool, and-i}
-use Rattle.tables.specs.declared.Status.{Status}
-use Rattle.tables.specs.declared.Status.the-variants.{Idle, Reading, Known}
+use Rattle.numbers.specs.Tests.{absurd-bool}
+use Rattle.tables.specs.declared.Status.the-variants.{Idle}
 use Rattle.tables.specs.declared.Kind.{Kind}
 use Rattle.tables.specs.declared.Kind.the-variants.{Free, Var, Val, Ref, Ex}
 use Rattle.tables.specs.declared.Holding.{Holding}
 use Rattle.tables.specs.declared.Holding.the-variants.{Unused, Live}
-use Rattle.tables.specs.declared.Message.{Message}
-use Rattle.tables.specs.declared.Message.the-variants.{Empty, Reference, Release, Read, Answer, Ask, Supply}
 use Rattle.tables.specs.declared.Place.{Place}
 use Rattle.tables.specs.declared.Place.the-variants.{Nowhere, At}
 use Rattle.tables.specs.Machine.{Machine, Tables}
-use Rattle.tables.specs.Parts.{isFree, isVar, isVal, isEx, isReading, namedBy, isLive, isTainted, entryNames}
-use Rattle.tables.specs.Look.{cell, entry, end, endKind, safe, exported, busy, message}
-use Rattle.rules.specs.Sound.{readsFor, follow, through}
+use Rattle.tables.specs.Parts.{isFree, isVar, isVal, isEx, namedBy, isLive, entryNames}
+use Rattle.tables.specs.Look.{cell, entry, endKind, safe, exported}
+use Rattle.rules.specs.Sound.{follow, through}
 use Rattle.rules.specs.Refusals.{entryEnd}
 use Rattle.rules.specs.Deliver.{cellOf}
-use Rattle.rules.specs.Facts.{CellFact, Facts, ahead, ReadAhead, Reads, EndsIn, StatusFact, KnownFact, AnswerFact}
+use Rattle.rules.specs.Facts.{CellFact, Facts, ahead, EndsIn}
 use Rattle.rules.proofs.Named.{the-live, IsLive}
-use Rattle.rules.proofs.Busy.{exported-by, busy-exported, busy-reading}
-use Rattle.rules.proofs.Derived.{live-fact, reading-cell, LivePlace, named-place, follow-place, ahead-place}
+use Rattle.rules.proofs.Busy.{exported-by, busy-exported}
+use Rattle.rules.proofs.Derived.{live-fact, LivePlace, follow-place, ahead-place}
 use Rattle.rules.specs.Change.{Change, next, seen, Placed, VarBecomes, stays, bound, Keeps}
-use Rattle.rules.proofs.Next.{spot, cell-here, cell-there, message-here, message-there}
-use Rattle.rules.proofs.Kept.{same-by, unseen-named, seen-ref, seen-val, seen-kept, reading-seen, referred-seen, live-kept, end-ref, end-self, facts-kept}
+use Rattle.rules.proofs.Next.{spot, cell-here, cell-there}
+use Rattle.rules.proofs.Kept.{seen-name, seen-ref, seen-val, seen-kept, referred-seen, live-kept, end-ref, end-self, facts-kept}
 
 pub nowhere-at : {X : Type 0} {o e : ℕ} → _≡_ {A = Place} Nowhere (At o e) → X
 nowhere-at q = let z : _≡_ {A = ℕ} 0 1 = cc in absurd (omega arith)
@@ -128,7 +123,7 @@ module _ (𝓜 : Machine) (s : Tables) (h : Change) (F : Facts 𝓜 s) (K : Keep
           let now = end-ref 𝓜 (next 𝓜 s h) v d y here in
           let was = end-ref 𝓜 s v d y q in
           as-before
-          (ap namedBy now ∙ same-by namedBy unseen-named (cell 𝓜 (next 𝓜 s h) v y) (cell 𝓜 s v y) (referred-seen 𝓜 s h F K v d y q (f .1)) ∙ sym (ap namedBy was))
+          (ap namedBy now ∙ seen-name Nowhere (λ owner entr. At owner entr) (cell 𝓜 (next 𝓜 s h) v y) (cell 𝓜 s v y) (referred-seen 𝓜 s h F K v d y q (f .1)) ∙ sym (ap namedBy was))
           (λ n p. absurd-bool (f .1) (ap isEx (sym was ∙ p)))
       go (Ex o e n st a) q t =
           let same = looks v d x (ap isVar q) in

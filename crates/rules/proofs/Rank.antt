@@ -1,27 +1,24 @@
 -- No loops: the rank falls with each step before a change, and after it, a new entry getting a rank of its own. Assumes nothing.
-use Prim.Native.Nat.{ℕ, zero, suc, _+_, _<_, _≤_}
+use Prim.Native.Nat.{ℕ, _<_, _≤_}
 use native.Mathlib.Omega.{arith}
 use mathlib.Core.Path.{_≡_, refl, sym, ap, subst, _∙_}
-use mathlib.Core.Bool.{Bool, true, false, _&&_, _||_, not, cond}
+use mathlib.Core.Bool.{true, false, not}
 use mathlib.Core.Logic.{_⊎_, inl, inr}
-use lib.Dec.{eqb, ltb}
+use lib.Dec.{ltb}
 use borrow.Author.Tests.{ltb-true, not-true}
 use Rattle.numbers.specs.Tests.{absurd-bool, or-else, and-l, and-r}
 use Rattle.tables.specs.declared.Kind.{Kind}
 use Rattle.tables.specs.declared.Kind.the-variants.{Free, Var, Val, Ref, Ex}
-use Rattle.tables.specs.declared.Holding.{Holding}
-use Rattle.tables.specs.declared.Holding.the-variants.{Unused, Live}
-use Rattle.tables.specs.declared.Place.{Place}
-use Rattle.tables.specs.declared.Place.the-variants.{Nowhere, At}
+use Rattle.tables.specs.declared.Place.the-variants.{At}
 use Rattle.tables.specs.Machine.{Machine, Tables}
-use Rattle.tables.specs.Parts.{isEx, namedBy, isLive, isTainted}
+use Rattle.tables.specs.Parts.{namedBy, isLive, isTainted}
 use Rattle.tables.specs.Look.{cell, entry, end, endKind, safe}
 use Rattle.rules.specs.Sound.{varValOrSafe, follow}
-use Rattle.rules.specs.Facts.{CellFact, EntryFact, Facts}
-use Rattle.rules.proofs.Named.{the-live, IsLive, the-ex}
+use Rattle.rules.specs.Facts.{CellFact, Facts}
+use Rattle.rules.proofs.Named.{the-live, IsLive}
 use Rattle.rules.proofs.Derived.{named-place, follow-place}
 use Rattle.rules.specs.Change.{Change, next, Placed, Keeps, Ranked}
-use Rattle.rules.proofs.Next.{spot, spot-yes, spot-no, entry-here, entry-there}
+use Rattle.rules.proofs.Next.{spot, entry-here, entry-there}
 use Rattle.rules.proofs.Kept.{live-kept, facts-kept}
 use Rattle.rules.proofs.Onward.{follow-live, follow-from, live-exported, after-live, end-kept, EndKept, as-before, newly-bound}
 

@@ -1,14 +1,14 @@
 -- The calls that send: export by location and by reference, indirect, read and ask. Assumes nothing.
-use Prim.Native.Nat.{ℕ, zero, suc, _+_, _-_, _<_, _≤_}
+use Prim.Native.Nat.{ℕ, _+_, _-_, _<_, _≤_}
 use native.Mathlib.Omega.{arith}
 use mathlib.Core.Path.{_≡_, refl, sym, ap, subst, _∙_}
 use mathlib.Core.Bool.{Bool, true, false, _&&_, _||_, not, cond}
-use mathlib.Core.List.{List, [], _∷_, _++_}
-use mathlib.Core.Logic.{_⊎_, inl, inr, _≢_}
-use lib.Dec.{eqb, ltb, leb}
-use borrow.Author.Tests.{leb-false, ltb-false, eqb-true, eq-eqb}
+use mathlib.Core.List.{_++_}
+use mathlib.Core.Logic.{inl, inr}
+use lib.Dec.{eqb, leb}
+use borrow.Author.Tests.{leb-false, ltb-false, eqb-true}
 use Rattle.numbers.specs.Below.{bit}
-use Rattle.numbers.specs.Tests.{absurd-bool, or-l, or-r}
+use Rattle.numbers.specs.Tests.{absurd-bool, or-r}
 use Rattle.tables.specs.declared.Status.{Status}
 use Rattle.tables.specs.declared.Status.the-variants.{Idle, Reading, Known}
 use Rattle.tables.specs.declared.Kind.{Kind}
@@ -16,26 +16,26 @@ use Rattle.tables.specs.declared.Kind.the-variants.{Free, Var, Val, Ref, Ex}
 use Rattle.tables.specs.declared.Holding.{Holding}
 use Rattle.tables.specs.declared.Holding.the-variants.{Unused, Live}
 use Rattle.tables.specs.declared.Message.{Message}
-use Rattle.tables.specs.declared.Message.the-variants.{Empty, Reference, Release, Read, Answer, Ask, Supply}
+use Rattle.tables.specs.declared.Message.the-variants.{Empty, Reference, Read, Ask}
 use Rattle.tables.specs.declared.Outcome.the-variants.{Waiting}
 use Rattle.tables.specs.Machine.{Machine, Tables}
-use Rattle.tables.specs.Parts.{onEx, readingOf, isFree, isVar, isVal, isEx, isAsking, exNames, namedBy, exWeight, endFrom, isLive, isTainted, entryNames, entryWeight, goesTo}
+use Rattle.tables.specs.Parts.{onEx, isFree, isVar, isVal, isEx, isAsking, exNames, namedBy, exWeight, endFrom, isLive, isTainted, entryNames, entryWeight}
 use Rattle.tables.specs.Look.{cell, entry, end, endKind, safe, entryOf, exported, lowestFreeEntry, lowestEmptySlot, booked, freeCells, message, putCell, putEntry, putMessage}
-use Rattle.rules.specs.Answers.{Check, Result, checked}
-use Rattle.rules.specs.Sound.{varValOrSafe, messageHolds}
+use Rattle.rules.specs.Answers.{checked}
+use Rattle.rules.specs.Sound.{varValOrSafe}
 use Rattle.rules.specs.Refusals.{entryToUse, sendRefusals, byReferenceRefusals, byLocationRefusals, indirectRefusals, readSends, readRefusals, askRefusals}
-use Rattle.rules.specs.Calls.{gains, byLocation, keeps, sends, byReference, export, indirect, readEx, readAt, read, askEx, ask}
+use Rattle.rules.specs.Calls.{gains, byLocation, keeps, sends, byReference, export, indirect, readAt, read, askEx, ask}
 use Rattle.rules.specs.Deliver.{cellOf}
 use Rattle.rules.specs.Machines.{Laws}
-use Rattle.rules.specs.Facts.{CellFact, EntryFact, Facts, ahead, KnownFact}
+use Rattle.rules.specs.Facts.{CellFact, EntryFact, ahead}
 use Rattle.rules.proofs.Inside.{cell-inside}
 use Rattle.rules.proofs.Named.{the-ex, the-entry-of, eq-both}
 use Rattle.rules.proofs.Busy.{own-entry, not-exported}
 use Rattle.rules.proofs.Derived.{live-fact}
-use Rattle.rules.specs.Change.{Change, next, Placed, Carries, Invariant}
+use Rattle.rules.specs.Change.{next, Invariant}
 use Rattle.rules.proofs.Next.{cell-here}
-use Rattle.rules.proofs.Moves.{cellMove, entryMove, ExMoves, EntryMoves}
-use Rattle.rules.proofs.Steps.{Passed, after-checked, passed-both, not-false, cond-add, zero-cond, bit-cond, free-entry, empty-slot, has-room, room-sent, room-same, stays-ex, stays-entry}
+use Rattle.rules.proofs.Moves.{cellMove, entryMove}
+use Rattle.rules.proofs.Steps.{after-checked, not-false, cond-add, free-entry, empty-slot, has-room, room-sent, room-same, stays-ex, stays-entry}
 use Rattle.rules.proofs.Local.{worker-used, weight-some}
 use Rattle.rules.proofs.Entries.{entry-next}
 

@@ -1,26 +1,24 @@
 -- All that holds of a reached state stays under a change that keeps and brings what it must. Assumes nothing.
-use Prim.Native.Nat.{ℕ, zero, suc, _+_, _<_, _≤_}
+use Prim.Native.Nat.{ℕ, suc, _+_, _<_, _≤_}
 use native.Mathlib.Omega.{arith}
-use mathlib.Core.Path.{_≡_, refl, sym, ap, subst, _∙_}
+use mathlib.Core.Path.{_≡_, refl, sym, ap, _∙_}
 use mathlib.Core.Bool.{Bool, true, false, _&&_, not, cond}
-use mathlib.Core.Logic.{_⊎_, inl, inr}
 use lib.Dec.{eqb}
 use borrow.Author.Tests.{not-true}
 use Rattle.numbers.specs.Tests.{absurd-bool, and-l, and-r, not-yes}
 use Rattle.tables.specs.declared.Place.{Place}
 use Rattle.tables.specs.declared.Place.the-variants.{Nowhere, At}
-use Rattle.tables.specs.declared.Holding.the-variants.{Live}
 use Rattle.tables.specs.Machine.{Machine, Tables}
 use Rattle.tables.specs.Parts.{namedBy, isLive, isTainted}
 use Rattle.tables.specs.Look.{entry, endKind}
-use Rattle.rules.specs.Sound.{varValOrSafe, follow}
-use Rattle.rules.specs.Facts.{EntryFact, Facts}
+use Rattle.rules.specs.Sound.{follow}
+use Rattle.rules.specs.Facts.{Facts}
 use Rattle.rules.proofs.Named.{the-live, both-eq}
 use Rattle.rules.proofs.Derived.{live-fact, follow-place}
-use Rattle.rules.specs.Change.{Change, next, Placed, Keeps, Carries, Ranked, Invariant}
+use Rattle.rules.specs.Change.{Change, next, Keeps, Carries, Ranked, Invariant}
 use Rattle.rules.proofs.Next.{spot-yes, entry-here}
 use Rattle.rules.proofs.Kept.{live-kept, facts-kept}
-use Rattle.rules.proofs.Onward.{follow-live, follow-from}
+use Rattle.rules.proofs.Onward.{follow-live}
 use Rattle.rules.proofs.Carried.{reads-kept, answers-kept, known-after}
 use Rattle.rules.proofs.Rank.{safe-ex, good-named, ranked-by}
 

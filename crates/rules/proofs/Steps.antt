@@ -1,17 +1,15 @@
 -- What the proofs of single calls share: the refusals that a call has passed, what a search found, room for what is sent, and the invariant
 -- over the rules' own stores. Assumes nothing.
-use Prim.Native.Nat.{ℕ, zero, suc, _+_, _-_, _*_, _<_, _≤_}
+use Prim.Native.Nat.{ℕ, _+_, _<_, _≤_}
 use native.Mathlib.Omega.{arith}
-use mathlib.Core.Path.{_≡_, refl, sym, ap, subst, _∙_}
-use mathlib.Core.Bool.{Bool, true, false, _&&_, _||_, not, cond}
+use mathlib.Core.Path.{_≡_, refl, ap, subst}
+use mathlib.Core.Bool.{Bool, true, false, not, cond}
 use mathlib.Core.List.{List, [], _∷_, _++_}
-use mathlib.Core.Logic.{_⊎_, inl, inr, _≢_}
-use lib.Dec.{eqb, ltb, leb}
-use borrow.Author.Tests.{ltb-true, ltb-false, leb-false, eqb-true, eqb-false}
-use Rattle.numbers.specs.Below.{bit, lowest, someBelow, countBelow}
+use lib.Dec.{eqb, leb}
+use borrow.Author.Tests.{ltb-true, leb-false, eqb-true}
+use Rattle.numbers.specs.Below.{bit, lowest}
 use Rattle.numbers.specs.Tests.{absurd-bool}
 use Rattle.numbers.specs.BelowLaws.{sum-some, some-of, lowest-at}
-use Rattle.tables.specs.declared.Refusal.{Refusal}
 use Rattle.tables.specs.declared.Status.{Status}
 use Rattle.tables.specs.declared.Kind.{Kind}
 use Rattle.tables.specs.declared.Kind.the-variants.{Free, Var, Val, Ref, Ex}
@@ -20,7 +18,7 @@ use Rattle.tables.specs.declared.Holding.the-variants.{Unused, Live}
 use Rattle.tables.specs.declared.Message.{Message}
 use Rattle.tables.specs.declared.Message.the-variants.{Empty, Reference, Release, Read, Answer, Ask, Supply}
 use Rattle.tables.specs.Machine.{Machine, Tables}
-use Rattle.tables.specs.Parts.{isFree, isVar, isEx, isReading, isAsking, entryNames, isUnused, isEmpty, goesTo}
+use Rattle.tables.specs.Parts.{isFree, isVar, isEx, isReading, isAsking, isUnused, isEmpty, goesTo}
 use Rattle.tables.specs.Look.{cell, entry, entryOf, exported, referred, busy, lowestFreeCell, lowestFreeEntry, lowestEmptySlot, booked, freeCells, message, putCell, putEntry, putMessage}
 use Rattle.rules.specs.Answers.{Check, _when_, Result, refuse, checked}
 use Rattle.rules.specs.Machines.{Laws}
@@ -29,10 +27,9 @@ use Rattle.rules.proofs.Inside.{cell-inside}
 use Rattle.rules.proofs.Named.{the-entry-of}
 use Rattle.rules.proofs.Busy.{own-entry, naming-ref, not-busy}
 use Rattle.rules.proofs.Derived.{live-fact}
-use Rattle.rules.specs.Change.{Change, next, Placed, Keeps, Carries, Invariant}
-use Rattle.rules.proofs.Next.{spot, cell-here, cell-there, entry-here, entry-there}
+use Rattle.rules.specs.Change.{Carries, Invariant}
 use Rattle.rules.proofs.Stays.{invariant-kept}
-use Rattle.rules.proofs.Moves.{cellMove, entryMove, put-cell-message, put-cell, put-entry-message, put-message, CellMoves, cell-keeps, ExMoves, ex-keeps, EntryMoves, entry-keeps}
+use Rattle.rules.proofs.Moves.{cellMove, entryMove, put-cell-message, put-cell, put-entry-message, CellMoves, cell-keeps, ExMoves, ex-keeps, EntryMoves, entry-keeps}
 
 -- ---- refusals passed: none of the tests hit
 abbrev pub Passed : List Check → Type 0

@@ -1,14 +1,13 @@
 -- Where the facts hold, the soundness test says yes. Assumes nothing.
-use Prim.Native.Nat.{ℕ, zero, suc, _+_, _*_, _<_, _≤_}
+use Prim.Native.Nat.{ℕ, zero, suc, _*_, _<_, _≤_}
 use native.Mathlib.Omega.{arith}
 use mathlib.Core.Path.{_≡_, refl, sym, ap, _∙_}
 use mathlib.Core.Bool.{Bool, true, false, _&&_, _||_, not, cond}
 use lib.Dec.{ltb, leb, eqb}
 use borrow.Author.Tests.{lt-ltb, le-leb, eq-eqb, ne-eqb}
 use Rattle.numbers.specs.Below.{bit, walkMeets}
-use Rattle.numbers.specs.Tests.{absurd-bool, and-i, or-l, or-r, or-true}
+use Rattle.numbers.specs.Tests.{absurd-bool, and-i, or-l, or-true}
 use Rattle.numbers.specs.BelowLaws.{all-of, count-once}
-use Rattle.tables.specs.declared.Status.{Status}
 use Rattle.tables.specs.declared.Kind.{Kind}
 use Rattle.tables.specs.declared.Kind.the-variants.{Free, Var, Val, Ref, Ex}
 use Rattle.tables.specs.declared.Holding.{Holding}
@@ -16,15 +15,15 @@ use Rattle.tables.specs.declared.Holding.the-variants.{Unused, Live}
 use Rattle.tables.specs.declared.Message.{Message}
 use Rattle.tables.specs.declared.Message.the-variants.{Empty, Reference, Release, Read, Answer, Ask, Supply}
 use Rattle.tables.specs.declared.Place.{Place}
-use Rattle.tables.specs.declared.Place.the-variants.{Nowhere, At}
+use Rattle.tables.specs.declared.Place.the-variants.{At}
 use Rattle.tables.specs.Machine.{Machine, Tables}
-use Rattle.tables.specs.Parts.{isFree, isEx, readingOf, isReading, isAsking, exNames, namedBy, isAt, isLive, entryNames, entryWeight}
+use Rattle.tables.specs.Parts.{isFree, readingOf, isReading, isAsking, exNames, namedBy, isAt, isLive, entryNames, entryWeight}
 use Rattle.tables.specs.Look.{cell, entry, endKind, booked, freeCells, message}
-use Rattle.rules.specs.Sound.{readsFor, asksFor, kindInRange, holdingInRange, messageInRange, cellInRange, entryInRange, exesNaming, cellNames, entriesNaming, varValOrSafe, entryNamesCell, readsOf, asksOf, cellAwaited, follow, reached, messageHasIts, messageHolds, held, entryWeighs, roomForBooked, point1, point2, point3, point4, point5, point6, sound}
+use Rattle.rules.specs.Sound.{readsFor, asksFor, kindInRange, messageInRange, cellInRange, entryInRange, exesNaming, cellNames, entriesNaming, varValOrSafe, entryNamesCell, readsOf, asksOf, cellAwaited, follow, reached, messageHasIts, messageHolds, held, entryWeighs, roomForBooked, point1, point2, point3, point4, point5, point6, sound}
 use Rattle.rules.specs.Machines.{Laws}
-use Rattle.rules.specs.Facts.{CellFact, EntryFact, MessageFact, Facts, ahead, ReadAhead, ReadsWithin}
+use Rattle.rules.specs.Facts.{CellFact, EntryFact, MessageFact, Facts, ahead, ReadsWithin}
 use Rattle.rules.proofs.Inside.{cell-inside, each-cell-of, each-entry-of, each-message-of}
-use Rattle.rules.proofs.Named.{eq-both}
+use Rattle.rules.proofs.Named.{eq-both, ex-not-free}
 use Rattle.rules.proofs.Derived.{cell-used, live-used, held-le, held-live, ex-held, ex-live, names-live, sent-held, reading-cell, asking-cell, named-place, ahead-place}
 
 -- a place that is ahead is met by the walk
@@ -37,27 +36,6 @@ ahead-walk 𝓜 s o e (suc k) (suc n) p l h = go (isAt o e p) (ahead-walk 𝓜 s
     go : (b : Bool) → walkMeets (isAt o e) (follow 𝓜 s) n (follow 𝓜 s p) ≡ true → cond b true (walkMeets (isAt o e) (follow 𝓜 s) n (follow 𝓜 s p)) ≡ true
     go true t = refl
     go false t = t
-
-not-free : (k : Kind) → isEx k ≡ true → isFree k ≡ false
-not-free Free t = absurd-bool t refl
-not-free Var t = refl
-not-free (Val n) t = refl
-not-free (Ref c) t = refl
-not-free (Ex o e n st a) t = refl
-
-reading-not-free : (k : Kind) → isReading k ≡ true → isFree k ≡ false
-reading-not-free Free t = absurd-bool t refl
-reading-not-free Var t = refl
-reading-not-free (Val n) t = refl
-reading-not-free (Ref c) t = refl
-reading-not-free (Ex o e n st a) t = refl
-
-asking-not-free : (k : Kind) → isAsking k ≡ true → isFree k ≡ false
-asking-not-free Free t = absurd-bool t refl
-asking-not-free Var t = refl
-asking-not-free (Val n) t = refl
-asking-not-free (Ref c) t = refl
-asking-not-free (Ex o e n st a) t = refl
 
 -- a test that a count demands only where a mark is set
 awaits : (b : Bool) (n : ℕ) → n ≡ bit b → (not b || eqb n 1) ≡ true
@@ -75,7 +53,7 @@ module _ (𝓜 : Machine) (L : Laws 𝓜) (s : Tables) (F : Facts 𝓜 s) (R : R
   kind-in-range w c (Val n) x = refl
   kind-in-range w c (Ref d) x =
       let f : CellFact 𝓜 s w (Ref d) = rw x at (F .cells w c) in
-      lt-ltb d (𝓜 .cells) (cell-inside 𝓜 s w d (not-free (cell 𝓜 s w d) (f .1)) .1)
+      lt-ltb d (𝓜 .cells) (cell-inside 𝓜 s w d (ex-not-free (λ o e n st a. true) (cell 𝓜 s w d) (f .1)) .1)
   kind-in-range w c (Ex o e n st a) x =
       let u = live-used 𝓜 s F o e (ex-live 𝓜 s (F .weighed) (F .cells) w c o e n st a x) in
       and-i (and-i (worker-in o (u .0)) (lt-ltb e (𝓜 .entries) (u .1)))
@@ -142,17 +120,17 @@ module _ (𝓜 : Machine) (L : Laws 𝓜) (s : Tables) (F : Facts 𝓜 s) (R : R
       held-in-range o e n (release-held k o e n x) f
   message-in-range k (Read r c o e) x =
       let u = live-used 𝓜 s F o e (read-live k r c o e x) in
-      let p = place-in-range r c (reading-not-free (cell 𝓜 s r c) (read-cell k r c (Read r c o e) x (eq-both r c))) in
+      let p = place-in-range r c (ex-not-free (λ o e n st a. readingOf st) (cell 𝓜 s r c) (read-cell k r c (Read r c o e) x (eq-both r c))) in
       and-i (and-i p (worker-in o (u .0))) (lt-ltb e (𝓜 .entries) (u .1))
   message-in-range k (Answer r c n) x =
-      place-in-range r c (reading-not-free (cell 𝓜 s r c) (read-cell k r c (Answer r c n) x (eq-both r c)))
+      place-in-range r c (ex-not-free (λ o e n st a. readingOf st) (cell 𝓜 s r c) (read-cell k r c (Answer r c n) x (eq-both r c)))
   message-in-range k (Ask a c o e) x =
       let u = live-used 𝓜 s F o e (names-live 𝓜 s F a c o e (ask-names k a c o e x)) in
-      let p = place-in-range a c (asking-not-free (cell 𝓜 s a c) (ask-cell k a c (Ask a c o e) x (eq-both a c))) in
+      let p = place-in-range a c (ex-not-free (λ o e n st a. a) (cell 𝓜 s a c) (ask-cell k a c (Ask a c o e) x (eq-both a c))) in
       and-i (and-i p (worker-in o (u .0))) (lt-ltb e (𝓜 .entries) (u .1))
   message-in-range k (Supply a c n) x =
       let h = ask-cell k a c (Supply a c n) x (eq-both a c) in
-      and-i (place-in-range a c (asking-not-free (cell 𝓜 s a c) h)) (le-leb n (𝓜 .ceiling) (supply-le (cell 𝓜 s a c) refl h))
+      and-i (place-in-range a c (ex-not-free (λ o e n st a. a) (cell 𝓜 s a c) h)) (le-leb n (𝓜 .ceiling) (supply-le (cell 𝓜 s a c) refl h))
     where
       supply-le : (j : Kind) → cell 𝓜 s a c ≡ j → isAsking j ≡ true → n ≤ 𝓜 .ceiling
       supply-le Free q t = absurd-bool t refl

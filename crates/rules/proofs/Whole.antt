@@ -1,14 +1,13 @@
 -- Demand 3, for every machine whose sizes and weights meet a few laws. Assumes nothing.
-use Prim.Native.Nat.{ℕ, zero, suc, _+_, _<_, _≤_}
+use Prim.Native.Nat.{ℕ, _+_, _≤_}
 use native.Mathlib.Omega.{arith}
 use mathlib.Core.Path.{_≡_, refl, sym, ap, subst, _∙_}
-use mathlib.Core.Bool.{Bool, true, false, _&&_, _||_, not, cond}
+use mathlib.Core.Bool.{Bool, true, false, _&&_, not, cond}
 use mathlib.Core.List.{List, [], _∷_}
-use mathlib.Core.Logic.{_⊎_, inl, inr}
 use lib.Dec.{eqb}
 use borrow.Author.Tests.{eq-eqb, ne-eqb, not-true}
 use Rattle.numbers.specs.Below.{bit}
-use Rattle.numbers.specs.Tests.{absurd-bool, or-else, and-l, and-r}
+use Rattle.numbers.specs.Tests.{absurd-bool, and-l, and-r}
 use Rattle.numbers.specs.ListLaws.{total-some}
 use Rattle.tables.specs.declared.Slot.{Slot}
 use Rattle.tables.specs.declared.Status.{Status}
@@ -19,30 +18,29 @@ use Rattle.tables.specs.declared.Holding.{Holding}
 use Rattle.tables.specs.declared.Holding.the-variants.{Unused, Live}
 use Rattle.tables.specs.declared.Message.{Message}
 use Rattle.tables.specs.declared.Message.the-variants.{Empty, Reference, Release, Read, Answer, Ask, Supply}
-use Rattle.tables.specs.declared.Place.{Place}
-use Rattle.tables.specs.declared.Place.the-variants.{Nowhere, At}
+use Rattle.tables.specs.declared.Place.the-variants.{At}
 use Rattle.tables.specs.declared.Outcome.the-variants.{Done}
 use Rattle.tables.specs.declared.Call.{Call}
 use Rattle.tables.specs.declared.Call.the-variants.{Start, New, Set, Bind, Export, Indirect, Transfer, Drop, ReadCell, AskWeight, Deliver, Bound}
 use Rattle.tables.specs.Machine.{Machine, Tables}
-use Rattle.tables.specs.Parts.{isVar, isVal, isReading, namedBy, isLive, entryWeight, isEmpty}
-use Rattle.tables.specs.Look.{cell, entry, liveEntries, message}
-use Rattle.rules.specs.Answers.{Check, _when_, Result, succeeds, refuse, checked}
+use Rattle.tables.specs.Parts.{isVar, isReading, namedBy, isLive, entryWeight, isEmpty}
+use Rattle.tables.specs.Look.{cell, entry, message}
+use Rattle.rules.specs.Answers.{Result, succeeds, checked}
 use Rattle.rules.specs.Sound.{readsFor, readsOf, held, sound}
-use Rattle.rules.specs.Refusals.{entryEnd, ready, deliverRefusals, boundRefusals}
+use Rattle.rules.specs.Refusals.{entryEnd, ready, boundRefusals}
 use Rattle.rules.specs.Calls.{start, bound, B}
 use Rattle.rules.specs.Deliver.{deliverHome, deliverAway, deliverRelease, deliverRead, deliverAnswer, deliverSupply, deliverAsk, deliverMessage, deliver}
 use Rattle.rules.specs.Step.{isStart, step, run, delivers, drained, successes, Reached, begun, after}
 use Rattle.rules.specs.Machines.{Laws}
-use Rattle.rules.specs.Facts.{Facts, EntryFact, ahead, ReadAhead, EndsIn, StatusFact, KnownFact, AnswerFact}
+use Rattle.rules.specs.Facts.{EntryFact, ahead, ReadAhead, EndsIn, KnownFact}
 use Rattle.rules.proofs.Derived.{LivePlace, named-place}
 use Rattle.rules.proofs.Named.{both-eq}
 use Rattle.rules.proofs.ToTest.{facts-sound}
 use Rattle.rules.specs.Change.{Ranked, Invariant}
-use Rattle.rules.specs.Statements.{noStart, EverySequence, StaysSound, Weights, FreedAtNothing, ComesToAnEnd, NoLoops, AtMostB, holdsReady, ReadySucceeds, AtRest, readOfUnbound, OnlyUnboundReads, KnownWith, Brought, Demand3}
-use Rattle.rules.proofs.Count.{standing, standing-live, reads-within, comes-to-end}
-use Rattle.rules.proofs.Measure.{measure, measure-bound, KindOn, ExOn, StatusOn, Arrived}
-use Rattle.rules.proofs.Steps.{Passed, after-checked}
+use Rattle.rules.specs.Statements.{noStart, FreedAtNothing, NoLoops, AtMostB, holdsReady, AtRest, readOfUnbound, KnownWith, Brought, Demand3}
+use Rattle.rules.proofs.Count.{standing-live, reads-within, comes-to-end}
+use Rattle.rules.proofs.Measure.{measure, measure-bound, KindOn, ExOn, Arrived}
+use Rattle.rules.proofs.Steps.{after-checked}
 use Rattle.rules.proofs.Local.{new-stays, set-stays, bind-stays, transfer-stays, drop-stays}
 use Rattle.rules.proofs.Send.{export-stays, indirect-stays, read-stays, ask-stays}
 use Rattle.rules.proofs.Arrive.{message-arrives, deliver-stays}

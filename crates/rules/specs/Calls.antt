@@ -1,7 +1,7 @@
 -- "Calls": what each gives, but for deliver. A call is its refusals in order, and else its answer and next state. Assumes nothing.
 use Prim.Native.Nat.{ℕ, _+_, _-_, _*_}
-use mathlib.Core.Bool.{Bool, true, false, _&&_, not, cond}
-use mathlib.Core.List.{List, [], _∷_, _++_}
+use mathlib.Core.Bool.{Bool, true, false, not, cond}
+use mathlib.Core.List.{[], _∷_, _++_}
 use lib.ListN.{replicate}
 use Rattle.numbers.specs.Lists.{total}
 use Rattle.tables.specs.declared.Status.{Status}
@@ -17,7 +17,7 @@ use Rattle.tables.specs.Machine.{Machine, Tables}
 use Rattle.tables.specs.Parts.{onEx, isEx}
 use Rattle.tables.specs.Look.{cell, entry, end, endKind, safe, lowestFreeCell, lowestEmptySlot, liveEntries, putCell, putEntry, putMessage}
 use Rattle.rules.specs.Answers.{Result, checked}
-use Rattle.rules.specs.Refusals.{badCount, notSound, entryToUse, newRefusals, setRefusals, bindRefusals, sendRefusals, byReferenceRefusals, byLocationRefusals, indirectRefusals, transferRefusals, dropRefusals, readRefusals, askRefusals, boundRefusals}
+use Rattle.rules.specs.Refusals.{badCount, entryToUse, newRefusals, setRefusals, bindRefusals, sendRefusals, byReferenceRefusals, byLocationRefusals, indirectRefusals, transferRefusals, dropRefusals, readRefusals, askRefusals, boundRefusals}
 
 -- P workers, everything free
 unfoldable pub allFree : Machine → ℕ → Tables

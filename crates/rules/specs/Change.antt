@@ -2,7 +2,7 @@
 -- change must keep for the facts of a sound state to stay is said here once. Assumes nothing.
 use Prim.Native.Nat.{ℕ, _+_, _*_, _<_, _≤_}
 use mathlib.Core.Path.{_≡_}
-use mathlib.Core.Bool.{Bool, true, false, _&&_, _||_, cond}
+use mathlib.Core.Bool.{true, false, _&&_, _||_, cond}
 use mathlib.Core.Logic.{_⊎_}
 use lib.Dec.{eqb}
 use lib.ListN.{set}

@@ -1,5 +1,5 @@
 -- What proofs need of a machine's sizes and weights, and of the tables' lengths. Assumes nothing.
-use Prim.Native.Nat.{ℕ, _*_, _<_, _≤_}
+use Prim.Native.Nat.{ℕ, _*_, _<_}
 use mathlib.Core.Path.{_≡_}
 use lib.ListN.{length}
 use Rattle.tables.specs.Machine.{Machine, Tables}

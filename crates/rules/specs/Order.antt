@@ -1,6 +1,6 @@
 -- What "the lowest is given" asks of a list of refusals: that its numbers stand in order. Assumes nothing.
 use Prim.Native.Nat.{ℕ}
-use mathlib.Core.Bool.{Bool, true, false, _&&_}
+use mathlib.Core.Bool.{Bool, true, _&&_}
 use mathlib.Core.List.{List, [], _∷_}
 use lib.Dec.{leb}
 use Rattle.rules.specs.Answers.{Check, _when_, numberOf}

@@ -1,13 +1,8 @@
 -- What searches and counts over a worker's cells and entries say of the flat lists, where the code reads. Assumes nothing.
 use Prim.Native.Nat.{ℕ, _+_, _*_, _≤_, _<_}
-use native.Mathlib.Omega.{arith}
-use mathlib.Core.Bool.{Bool, true, false, _&&_, cond}
-use mathlib.Core.Path.{_≡_, refl, sym, ap, _∙_}
+use mathlib.Core.Path.{_≡_}
 use borrow.Author.Tests.{lt-ltb, le-ltb}
-use Rattle.numbers.specs.Below.{lowest, countBelow, bit}
-use Rattle.tables.specs.declared.Kind.{Kind}
 use Rattle.tables.specs.declared.Kind.the-variants.{Free}
-use Rattle.tables.specs.declared.Holding.{Holding}
 use Rattle.tables.specs.declared.Holding.the-variants.{Unused}
 use Rattle.tables.specs.Machine.{Machine, Tables}
 use Rattle.tables.specs.Look.{kindAt, holdingAt, cell, entry}
