@@ -6,3 +6,4 @@ pub mod BelowLaws
 pub mod ListLaws
 pub mod Loops
 pub mod Grid
+pub mod Pigeon

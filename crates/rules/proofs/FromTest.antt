@@ -36,7 +36,7 @@ in-use true r h = refl
 in-use false r h = h
 
 -- a walk that meets a place is ahead of where it starts
-walk-ahead : (𝓜 : Machine) (s : Tables) (o e n : ℕ) (p : Place) → walkMeets (isAt o e) (follow 𝓜 s) n p ≡ true → (k : ℕ) × (k < n) × (ahead 𝓜 s k p ≡ At o e)
+pub walk-ahead : (𝓜 : Machine) (s : Tables) (o e n : ℕ) (p : Place) → walkMeets (isAt o e) (follow 𝓜 s) n p ≡ true → (k : ℕ) × (k < n) × (ahead 𝓜 s k p ≡ At o e)
 unfolding walkMeets ahead
 walk-ahead 𝓜 s o e zero p h = absurd-bool h refl
 walk-ahead 𝓜 s o e (suc n) p h = go (isAt o e p) refl h (walk-ahead 𝓜 s o e n (follow 𝓜 s p))

@@ -26,6 +26,7 @@ pub mod Entries
 pub mod Send
 pub mod Arrive
 pub mod Begun
+pub mod Reach
 -- Demand 3, for every machine, and at document 01's sizes.
 pub mod Chains
 pub mod Whole

@@ -27,7 +27,7 @@ use Rattle.rules.proofs.Named.{eq-both, ex-not-free}
 use Rattle.rules.proofs.Derived.{cell-used, live-used, held-le, held-live, ex-held, ex-live, names-live, sent-held, reading-cell, asking-cell, named-place, ahead-place}
 
 -- a place that is ahead is met by the walk
-ahead-walk : (𝓜 : Machine) (s : Tables) (o e k n : ℕ) (p : Place) → k < n → ahead 𝓜 s k p ≡ At o e → walkMeets (isAt o e) (follow 𝓜 s) n p ≡ true
+pub ahead-walk : (𝓜 : Machine) (s : Tables) (o e k n : ℕ) (p : Place) → k < n → ahead 𝓜 s k p ≡ At o e → walkMeets (isAt o e) (follow 𝓜 s) n p ≡ true
 unfolding walkMeets ahead
 ahead-walk 𝓜 s o e k zero p l h = absurd (omega arith)
 ahead-walk 𝓜 s o e zero (suc n) p l h = rw (h, eq-both o e)

@@ -1,0 +1,1 @@
+// No code: the laws of the soundness test's loops, in specs/.

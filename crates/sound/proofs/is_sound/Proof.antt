@@ -1,0 +1,12 @@
+-- `sound::is_sound` meets its contract: no point is broken. Assumes nothing.
+use Rattle.tables.specs.Machine.{eight, tables}
+use Rattle.sound.specs.Chain.{none-broken}
+use Rattle.sound.proofs.is_sound.Statement.{statement}
+use Rattle.sound.proofs.is_sound.Tie as tie
+
+pub is-sound-spec : {M : Type 1} → statement M
+is-sound-spec =
+    tie.close
+    (tie.spec
+    (λ c κs. tt)
+    (λ c. rw (c .first-broken .ensures) (none-broken eight (tables (c .before .args .s)))))

@@ -1,0 +1,2 @@
+-- A chain of points, tested one after another.
+pub mod Chain

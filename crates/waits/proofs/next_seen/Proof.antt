@@ -1,0 +1,16 @@
+-- `waits::next_seen` meets its contract: by cases. Assumes nothing.
+use borrow.Author.Needs.{needs}
+use Rattle.waits.specs.Steps.{nextSeen}
+use Rattle.waits.proofs.next_seen.Statement.{statement}
+use Rattle.waits.proofs.next_seen.Tie as tie
+
+pub next-seen-spec : {M : Type 1} → statement M
+unfolding nextSeen
+next-seen-spec =
+    tie.close
+    (tie.spec
+    (λ c. search needs)
+    (λ c. search needs)
+    (λ c κs. tt)
+    (λ c. rw (c .enum-told .given .1))
+    (λ c. rw (c .before .before .p .given .1) (c .next-at .ensures)))

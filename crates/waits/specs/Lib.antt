@@ -1,0 +1,3 @@
+-- Point 4 by a table of steps and by what a loop has read.
+pub mod Steps
+pub mod Waits

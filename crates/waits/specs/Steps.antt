@@ -1,0 +1,104 @@
+-- A table of the steps along ends and references, one for each entry: a walk by it is the walk of document 01. Assumes nothing.
+use Prim.Native.Nat.{ℕ, _+_, _*_, _/_, _%_, _<_}
+use native.Mathlib.Omega.{arith}
+use mathlib.Core.Path.{_≡_, refl, ap, ap₂, _∙_}
+use mathlib.Core.Bool.{true, false, _&&_, cond}
+use mathlib.Core.List.{List}
+use mathlib.Core.Logic.{⊎-elim}
+use lib.Dec.{ltb}
+use lib.ListN.{length, getD, set, length-set}
+use lib.Seq.{getD-set-same, getD-set-other}
+use lib.Arith.{digits-lt, digits-div, digits-mod}
+use borrow.Author.Tests.{ltb-true}
+use Rattle.numbers.specs.Below.{walkMeets}
+use Rattle.numbers.specs.Tests.{or-else, and-l, and-r}
+use Rattle.numbers.specs.BelowLaws.{below-cases}
+use Rattle.tables.specs.declared.Kind.{Kind}
+use Rattle.tables.specs.declared.Holding.{Holding}
+use Rattle.tables.specs.declared.Holding.the-variants.{Unused, Live}
+use Rattle.tables.specs.declared.Place.{Place}
+use Rattle.tables.specs.declared.Place.the-variants.{Nowhere, At}
+use Rattle.tables.specs.Machine.{Machine, Tables}
+use Rattle.tables.specs.Parts.{namedBy, endFrom, isAt}
+use Rattle.tables.specs.Look.{holdingAt, cell, entry, end, endKind}
+use Rattle.tables.specs.Laws.{entry-in}
+use Rattle.rules.specs.Sound.{through, follow, reached}
+use Rattle.passing.specs.Walking.{walk-cong}
+use Rattle.places.specs.Places.{placeIndex, cellOf}
+use Rattle.waits.specs.declared.Step.{Step}
+
+abbrev pub nextAt : List Step → ℕ → Place
+nextAt l i = getD l i (record { next = Nowhere }) .next
+
+-- the reference that the end of an entry's cell is
+abbrev pub nextFrom : Holding → Kind → Place
+nextFrom Unused k = Nowhere
+nextFrom (Live c n t) k = namedBy k
+
+module _ (𝓜 : Machine) where
+  -- the place after p, where next is read for it
+  unfoldable pub nextSeen : Place → Place → Place
+  nextSeen Nowhere next = Nowhere
+  nextSeen (At o e) next = cond (ltb o (𝓜 .workers) && ltb e (𝓜 .entries)) next Nowhere
+
+  -- one step by the table
+  abbrev pub stepBy : List Step → Place → Place
+  stepBy l p = nextSeen p (nextAt l (placeIndex 𝓜 p))
+
+module _ (𝓜 : Machine) (s : Tables) where
+  -- The table has the step of each of the first n entries.
+  pub record Followed (l : List Step) (n : ℕ) : Type 0 where
+    pub size : length l ≡ 𝓜 .workers * 𝓜 .entries
+    pub at : (j : ℕ) → j < n → nextAt l j ≡ follow 𝓜 s (At (j / 𝓜 .entries) (j % 𝓜 .entries))
+
+  pub followed-none : (l : List Step) → length l ≡ 𝓜 .workers * 𝓜 .entries → Followed l 0
+  followed-none l h = record { size = h; at = λ j k. absurd (omega arith) }
+
+  pub followed-more : {l : List Step} {n : ℕ} {p : Place} → Followed l n → n < 𝓜 .workers * 𝓜 .entries → p ≡ follow 𝓜 s (At (n / 𝓜 .entries) (n % 𝓜 .entries)) → Followed (set l n (record { next = p })) (n + 1)
+  followed-more {l} {n} {p} f h e =
+      record {
+        size = simp length-set (f .size);
+        at = λ j k. ⊎-elim
+            (λ (a : j < n). ap (λ (x : Step). x .next) (getD-set-other l n j (record { next = p }) (record { next = Nowhere }) (λ q. omega arith)) ∙ f .at j a)
+            (λ (a : j ≡ n). rw a (ap (λ (x : Step). x .next) (getD-set-same l n (record { next = p }) (record { next = Nowhere }) (let m = f .size in omega arith)) ∙ e))
+            (below-cases j n (omega arith));
+      }
+
+  through-by : (w : ℕ) (x : Holding) {p : Place} → p ≡ nextFrom x (cell 𝓜 s w (endFrom (cell 𝓜 s w (cellOf x)) (cellOf x))) → p ≡ through 𝓜 s w x
+  unfolding endKind end
+  through-by w Unused h = h
+  through-by w (Live c n t) h = h
+
+  -- what the code reads of an entry and of its cell's end is the step
+  pub step-read : (i : ℕ) {c d : ℕ} {k l : Kind} {next : Place} → i / 𝓜 .entries < 𝓜 .workers → i % 𝓜 .entries < 𝓜 .entries
+      → holdingAt (s .entries) i ≡ holdingAt (s .entries) (i / 𝓜 .entries * 𝓜 .entries + i % 𝓜 .entries)
+      → c ≡ cellOf (holdingAt (s .entries) i) → k ≡ cell 𝓜 s (i / 𝓜 .entries) c → d ≡ endFrom k c → l ≡ cell 𝓜 s (i / 𝓜 .entries) d
+      → next ≡ nextFrom (holdingAt (s .entries) i) l → next ≡ follow 𝓜 s (At (i / 𝓜 .entries) (i % 𝓜 .entries))
+  unfolding follow
+  step-read i w e here c k d l next =
+      rw (entry-in 𝓜 s (i / 𝓜 .entries) (i % 𝓜 .entries) w e, ← here)
+      (through-by (i / 𝓜 .entries) (holdingAt (s .entries) i) (rw (l, d, k, c) at next))
+
+  entry-out : (o e : ℕ) → (ltb o (𝓜 .workers) && ltb e (𝓜 .entries)) ≡ false → entry 𝓜 s o e ≡ Unused
+  unfolding entry
+  entry-out o e h = rw h
+
+  -- a step by the whole table is document 01's
+  step-by : (l : List Step) → Followed l (𝓜 .workers * 𝓜 .entries) → (p : Place) → stepBy 𝓜 l p ≡ follow 𝓜 s p
+  unfolding nextSeen placeIndex follow
+  step-by l f Nowhere = refl
+  step-by l f (At o e) = ⊎-elim within outside (or-else (ltb o (𝓜 .workers) && ltb e (𝓜 .entries)))
+    where
+      within : (ltb o (𝓜 .workers) && ltb e (𝓜 .entries)) ≡ true → cond (ltb o (𝓜 .workers) && ltb e (𝓜 .entries)) (nextAt l (cond (ltb o (𝓜 .workers) && ltb e (𝓜 .entries)) (o * 𝓜 .entries + e) 0)) Nowhere ≡ through 𝓜 s o (entry 𝓜 s o e)
+      within h =
+          let ow : o < 𝓜 .workers = ltb-true o (𝓜 .workers) (and-l (ltb o (𝓜 .workers)) (ltb e (𝓜 .entries)) h) in
+          let el : e < 𝓜 .entries = ltb-true e (𝓜 .entries) (and-r (ltb o (𝓜 .workers)) (ltb e (𝓜 .entries)) h) in
+          rw h (f .at (o * 𝓜 .entries + e) (digits-lt ow el) ∙ ap₂ (λ (a b : ℕ). follow 𝓜 s (At a b)) (digits-div o el) (digits-mod o el))
+
+      outside : (ltb o (𝓜 .workers) && ltb e (𝓜 .entries)) ≡ false → cond (ltb o (𝓜 .workers) && ltb e (𝓜 .entries)) (nextAt l (cond (ltb o (𝓜 .workers) && ltb e (𝓜 .entries)) (o * 𝓜 .entries + e) 0)) Nowhere ≡ through 𝓜 s o (entry 𝓜 s o e)
+      outside h = rw (h, entry-out o e h)
+
+  -- and so is the walk
+  pub reached-by : (l : List Step) → Followed l (𝓜 .workers * 𝓜 .entries) → (from : Place) (o e : ℕ) → walkMeets (isAt o e) (stepBy 𝓜 l) (𝓜 .workers * 𝓜 .entries) from ≡ reached 𝓜 s from o e
+  unfolding reached
+  reached-by l f from o e = walk-cong (isAt o e) (stepBy 𝓜 l) (follow 𝓜 s) (step-by l f) (𝓜 .workers * 𝓜 .entries) from

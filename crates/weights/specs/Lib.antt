@@ -1,0 +1,2 @@
+-- Point 5 by what a loop has read.
+pub mod Weights

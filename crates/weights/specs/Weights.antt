@@ -1,0 +1,64 @@
+-- Point 5 by what a loop has read of one message and added up for one entry, and that this is what the point says. Assumes nothing.
+use Prim.Native.Nat.{ℕ, _+_, _*_}
+use mathlib.Core.Path.{_≡_, refl, sym, _∙_}
+use mathlib.Core.Bool.{Bool, true, _&&_, cond}
+use lib.Dec.{eqb}
+use lib.ListN.{length}
+use Rattle.numbers.specs.Below.{sumBelow}
+use Rattle.numbers.specs.Lists.{total}
+use Rattle.numbers.specs.ListLaws.{total-below}
+use Rattle.tables.specs.declared.Kind.{Kind}
+use Rattle.tables.specs.declared.Kind.the-variants.{Free}
+use Rattle.tables.specs.declared.Holding.{Holding}
+use Rattle.tables.specs.declared.Holding.the-variants.{Unused, Live}
+use Rattle.tables.specs.declared.Message.{Message}
+use Rattle.tables.specs.declared.Message.the-variants.{Empty, Reference, Release, Read, Answer, Ask, Supply}
+use Rattle.tables.specs.Machine.{Machine, Tables}
+use Rattle.tables.specs.Parts.{exNames, isLive}
+use Rattle.tables.specs.Look.{kindAt, messageAt, cell}
+use Rattle.rules.specs.Sound.{cellHolds, messageHolds, held, entryWeighs}
+use Rattle.places.specs.Places.{waiterOf, cellFor}
+
+-- what a message holds on the entry e of worker o, where the EX that waits for it is k
+abbrev pub messageHoldsSeen : ℕ → ℕ → Kind → Message → ℕ
+messageHoldsSeen o e k Empty = 0
+messageHoldsSeen o e k (Reference to owner entry n) = cond (eqb owner o && eqb entry e) n 0
+messageHoldsSeen o e k (Release owner entry n) = cond (eqb owner o && eqb entry e) n 0
+messageHoldsSeen o e k (Read r c owner entry) = 0
+messageHoldsSeen o e k (Answer r c n) = 0
+messageHoldsSeen o e k (Ask a c owner entry) = 0
+messageHoldsSeen o e k (Supply a c n) = cond (exNames o e k) n 0
+
+-- an entry weighs n, where it is live
+abbrev pub weighsSeen : ℕ → Holding → Bool
+weighsSeen n Unused = true
+weighsSeen n (Live c w t) = eqb w n
+
+module _ (𝓜 : Machine) (s : Tables) (o e : ℕ) where
+  message-holds : (m : Message) → messageHoldsSeen o e (cell 𝓜 s (waiterOf m) (cellFor m)) m ≡ messageHolds 𝓜 s o e m
+  message-holds Empty = refl
+  message-holds (Reference to owner entry n) = refl
+  message-holds (Release owner entry n) = refl
+  message-holds (Read r c owner entry) = refl
+  message-holds (Answer r c n) = refl
+  message-holds (Ask a c owner entry) = refl
+  message-holds (Supply a c n) = refl
+
+  -- step by step as the code reads
+  pub message-holds-by : {w c n : ℕ} {k : Kind} (m : Message) → w ≡ waiterOf m → c ≡ cellFor m → k ≡ cell 𝓜 s w c → n ≡ messageHoldsSeen o e k m → n ≡ messageHolds 𝓜 s o e m
+  message-holds-by m w c k h = rw (k, w, c) at h ∙ message-holds m
+
+  cells-hold : {n : ℕ} → length (s .cells) ≡ n → sumBelow n (λ j. cellHolds 𝓜 s o e (kindAt (s .cells) j)) ≡ total (λ x. cellHolds 𝓜 s o e (x .kind)) (s .cells)
+  cells-hold h = sym (rw h at (total-below (λ x. cellHolds 𝓜 s o e (x .kind)) (s .cells) (record { kind = Free })))
+
+  messages-hold : {n : ℕ} → length (s .slots) ≡ n → sumBelow n (λ j. messageHolds 𝓜 s o e (messageAt (s .slots) j)) ≡ total (λ x. messageHolds 𝓜 s o e (x .message)) (s .slots)
+  messages-hold h = sym (rw h at (total-below (λ x. messageHolds 𝓜 s o e (x .message)) (s .slots) (record { message = Empty })))
+
+  pub entry-weighs-by : {m n cells slots : ℕ} {b r : Bool} (x : Holding) → length (s .cells) ≡ 𝓜 .workers * 𝓜 .cells → length (s .slots) ≡ 𝓜 .slots
+      → b ≡ isLive x → n ≡ cond b (𝓜 .workers * 𝓜 .cells) 0 → m ≡ cond b (𝓜 .slots) 0
+      → cells ≡ sumBelow n (λ j. cellHolds 𝓜 s o e (kindAt (s .cells) j)) → slots ≡ sumBelow m (λ j. messageHolds 𝓜 s o e (messageAt (s .slots) j))
+      → r ≡ weighsSeen (cells + slots) x → r ≡ entryWeighs 𝓜 s o e x
+  unfolding held
+  entry-weighs-by Unused p q b n m cells slots h = h
+  entry-weighs-by (Live c w t) p q b n m cells slots h =
+      rw (rw (n, b) at cells ∙ cells-hold p, rw (m, b) at slots ∙ messages-hold q) at h

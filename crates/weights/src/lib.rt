@@ -1,0 +1,121 @@
+// Points 5 and 6 of a sound state: weights are what is held, and there is room for what is booked.
+ghost use mathlib.Core.Path.{_≡_};
+ghost use mathlib.Core.Bool.{cond};
+ghost use Rattle.tables.specs.Machine.{Tables, eight, tables};
+ghost use Rattle.rules.specs.Sound.{cellHolds, point5, point6};
+ghost use Rattle.weights.specs.Weights.{messageHoldsSeen, weighsSeen};
+use numbers::both;
+use tables::Holding;
+use tables::Kind;
+use tables::Message;
+use tables::State;
+
+// ---- point 5
+
+// n where it counts, else nothing.
+fn weight_if(counts: bool, n: u32) -> u32
+    ensures { λ r. ⌜ r ≡ cond counts n 0 ⌝ }
+{
+    if counts { n } else { 0 }
+}
+
+// What a cell that holds k holds on the entry e of worker o.
+fn cell_holds(o: u8, e: u8, k: Kind) -> u32
+    ensures { λ r. ⌜ ((s : Tables) → r ≡ cellHolds eight s o e k) ⌝ }
+{
+    match k {
+        Kind::Free => 0,
+        Kind::Var => 0,
+        Kind::Val(_) => 0,
+        Kind::Ref(_) => 0,
+        Kind::Ex {
+            owner,
+            entry,
+            weight,
+            ..
+        } => weight_if(both(owner == o, entry == e), weight),
+    }
+}
+
+// What the message m holds on the entry e of worker o, where the EX that waits for it is k.
+fn message_holds(o: u8, e: u8, m: Message, k: Kind) -> u32
+    ensures { λ r. ⌜ r ≡ messageHoldsSeen o e k m ⌝ }
+{
+    match m {
+        Message::Empty => 0,
+        Message::Reference {
+            owner,
+            entry,
+            weight,
+            ..
+        } => weight_if(both(owner == o, entry == e), weight),
+        Message::Release {
+            owner,
+            entry,
+            weight,
+        } => weight_if(both(owner == o, entry == e), weight),
+        Message::Read { .. } => 0,
+        Message::Answer { .. } => 0,
+        Message::Ask { .. } => 0,
+        Message::Supply { weight, .. } => weight_if(parts::ex_names(o, e, k), weight),
+    }
+}
+
+// An entry that holds x weighs n, where it is live.
+fn weighs(x: Holding, n: u64) -> bool
+    ensures { λ r. ⌜ r ≡ weighsSeen n x ⌝ }
+{
+    match x {
+        Holding::Unused => true,
+        Holding::Live { weight, .. } => weight as u64 == n,
+    }
+}
+
+pub fn point_5(s: State) -> bool
+    ensures { λ r. ⌜ r ≡ point5 eight (tables s) ⌝ }
+{
+    for i in 0..128usize {
+        let x = s.entries[i];
+        let holding = x.holding;
+        let o = (i / 16) as u8;
+        let e = (i % 16) as u8;
+        let live = parts::is_live(holding);
+        let n = places::span(live, 256);
+        let mut in_cells: u64 = 0;
+        for j in 0..n {
+            let y = s.cells[j];
+            let k = y.kind;
+            in_cells += cell_holds(o, e, k) as u64;
+        }
+        let m = places::span(live, 64);
+        let mut in_slots: u64 = 0;
+        for j in 0..m {
+            let y = s.slots[j];
+            let message = y.message;
+            let w = places::waiter_of(message);
+            let c = places::cell_for(message);
+            let h = places::cell_index(w, c);
+            let z = s.cells[h];
+            let there = z.kind;
+            in_slots += message_holds(o, e, message, places::cell_seen(w, c, there)) as u64;
+        }
+        if !weighs(holding, in_cells + in_slots) {
+            return false;
+        }
+    }
+    true
+}
+
+// ---- point 6
+
+pub fn point_6(s: State) -> bool
+    ensures { λ r. ⌜ r ≡ point6 eight (tables s) ⌝ }
+{
+    for w in 0..s.p {
+        let room = lookups::booked(s, w) <= lookups::free_cells(s, w);
+        if !room {
+            return false;
+        }
+    }
+    true
+}
