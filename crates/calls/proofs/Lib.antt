@@ -1,0 +1,2 @@
+-- What is shown of the calls together.
+pub mod OneOutcome

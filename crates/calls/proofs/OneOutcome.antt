@@ -1,0 +1,63 @@
+-- "A proof shows that no second outcome satisfies it": of each public call, any two replies that meet its contract are equal. `Post` is the
+-- contract as Rattle reads it from the source: what is owed of the arguments, the result and the parameters at exit. Assumes nothing.
+use mathlib.Core.Path.{_≡_, sym, _∙_}
+use Rattle.calls.proofs.start.Reads as start
+use Rattle.calls.proofs.new.Reads as new
+use Rattle.calls.proofs.set.Reads as set
+use Rattle.calls.proofs.bind.Reads as bind
+use Rattle.calls.proofs.export.Reads as export
+use Rattle.calls.proofs.indirect.Reads as indirect
+use Rattle.calls.proofs.transfer.Reads as transfer
+use Rattle.calls.proofs.drop.Reads as drop
+use Rattle.calls.proofs.read.Reads as read
+use Rattle.calls.proofs.ask.Reads as ask
+use Rattle.calls.proofs.bound.Reads as bound
+use Rattle.calls.proofs.deliver.Reads as deliver
+use Rattle.calls.proofs.step.Reads as step
+
+-- a contract allows one outcome: whatever the arguments a, two results that meet it are equal
+abbrev pub OneOutcome : {A R E : Type 0} → (A → R → E → Type 0) → Type 0
+OneOutcome {A} {R} {E} meets = (a : A) (x y : R) (e f : E) → meets a x e → meets a y f → x ≡ y
+
+-- so it is where the contract says what the result is
+one : {R : Type 0} {x y z : R} → x ≡ z → y ≡ z → x ≡ y
+one p q = p ∙ sym q
+
+pub start-one : OneOutcome (start.Post tt)
+start-one a x y e f p q = one p q
+
+pub new-one : OneOutcome (new.Post tt)
+new-one a x y e f p q = one p q
+
+pub set-one : OneOutcome (set.Post tt)
+set-one a x y e f p q = one p q
+
+pub bind-one : OneOutcome (bind.Post tt)
+bind-one a x y e f p q = one p q
+
+pub export-one : OneOutcome (export.Post tt)
+export-one a x y e f p q = one p q
+
+pub indirect-one : OneOutcome (indirect.Post tt)
+indirect-one a x y e f p q = one p q
+
+pub transfer-one : OneOutcome (transfer.Post tt)
+transfer-one a x y e f p q = one p q
+
+pub drop-one : OneOutcome (drop.Post tt)
+drop-one a x y e f p q = one p q
+
+pub read-one : OneOutcome (read.Post tt)
+read-one a x y e f p q = one p q
+
+pub ask-one : OneOutcome (ask.Post tt)
+ask-one a x y e f p q = one p q
+
+pub bound-one : OneOutcome (bound.Post tt)
+bound-one a x y e f p q = one p q
+
+pub deliver-one : OneOutcome (deliver.Post tt)
+deliver-one a x y e f p q = one p q
+
+pub step-one : OneOutcome (step.Post tt)
+step-one a x y e f p q = one p q

@@ -1,0 +1,30 @@
+-- `refusals::by_location_refusals` meets its contract: two refusals before those of room. Assumes nothing.
+use Prim.Native.Nat.{ℕ, _+_}
+use native.Mathlib.Omega.{arith}
+use mathlib.Core.Path.{_≡_}
+use lib.Dec.{ltb}
+use borrow.Author.Tests.{lt-ltb, ltb-true}
+use Rattle.numbers.specs.Tests.{bool-eq}
+use Rattle.calls.specs.Verdicts.{along}
+use Rattle.calls.proofs.refusals.by_location_refusals.Statement.{statement}
+use Rattle.calls.proofs.refusals.by_location_refusals.Tie as tie
+
+-- the code tests for the ceiling without adding
+passes-ceiling : (n : ℕ) → ltb 1047552 n ≡ ltb 1048576 (n + 1024)
+passes-ceiling n =
+    bool-eq (λ h. lt-ltb 1048576 (n + 1024) (omega (arith, ltb-true))) (λ h. lt-ltb 1047552 n (omega (arith, ltb-true)))
+
+pub by-location-refusals-spec : {M : Type 1} → statement M
+unfolding along
+by-location-refusals-spec =
+    tie.close
+    (tie.spec
+    (λ c κs. tt)
+    (λ c κs. tt)
+    (λ c κs. tt)
+    (λ c κs. tt)
+    (λ c κs. tt)
+    (λ c κs. tt)
+    (λ c.
+    let d = c .before .before .before .before in
+    rw (c .room-refusals .ensures, c .before .refuse-if2 .ensures, c .before .before .refuse-if .ensures, c .before .before .before .entry-weight .ensures, d .entry-at .ensures, d .before .entry-to-use .ensures, passes-ceiling)))

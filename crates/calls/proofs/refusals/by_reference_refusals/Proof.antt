@@ -1,0 +1,15 @@
+-- `refusals::by_reference_refusals` meets its contract: one refusal before those of room. Assumes nothing.
+use Rattle.calls.specs.Verdicts.{along}
+use Rattle.calls.proofs.refusals.by_reference_refusals.Statement.{statement}
+use Rattle.calls.proofs.refusals.by_reference_refusals.Tie as tie
+
+pub by-reference-refusals-spec : {M : Type 1} → statement M
+unfolding along
+by-reference-refusals-spec =
+    tie.close
+    (tie.spec
+    (λ c κs. tt)
+    (λ c κs. tt)
+    (λ c κs. tt)
+    (λ c κs. tt)
+    (λ c. rw (c .room-refusals .ensures, c .before .refuse-if .ensures, c .before .before .ex-weight .ensures, c .before .before .before .cell-at .ensures)))

@@ -1,0 +1,15 @@
+-- `refusals::cell_refusals` meets its contract: one refusal after those of the worker. Assumes nothing.
+use Rattle.calls.specs.Verdicts.{along}
+use Rattle.calls.proofs.refusals.cell_refusals.Statement.{statement}
+use Rattle.calls.proofs.refusals.cell_refusals.Tie as tie
+
+pub cell-refusals-spec : {M : Type 1} → statement M
+unfolding along
+cell-refusals-spec =
+    tie.close
+    (tie.spec
+    (λ c κs. tt)
+    (λ c κs. tt)
+    (λ c κs. tt)
+    (λ c κs. tt)
+    (λ c. rw (c .refuse-if .ensures, c .before .is-free .ensures, c .before .before .worker-refusals .ensures, c .before .before .before .cell-at .ensures)))

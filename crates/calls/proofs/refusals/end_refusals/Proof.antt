@@ -1,0 +1,12 @@
+-- `refusals::end_refusals` meets its contract, by cases. Assumes nothing.
+use Rattle.calls.proofs.refusals.end_refusals.Statement.{statement}
+use Rattle.calls.proofs.refusals.end_refusals.Tie as tie
+
+pub end-refusals-spec : {M : Type 1} → statement M
+end-refusals-spec =
+    tie.close
+    (tie.spec
+    (λ c κs. tt)
+    (λ c κs. tt)
+    (λ c. rw (c .by-reference-refusals .ensures, c .before .if1 .taken))
+    (λ c. rw (c .by-location-refusals .ensures, c .before .if1 .left)))

@@ -1,0 +1,20 @@
+-- `refusals::read_sends` meets its contract, by cases; of an EX the status is tested. Assumes nothing.
+use borrow.Author.Needs.{needs}
+use Rattle.calls.proofs.refusals.read_sends.Statement.{statement}
+use Rattle.calls.proofs.refusals.read_sends.Tie as tie
+
+pub read-sends-spec : {M : Type 1} → statement M
+read-sends-spec =
+    tie.close
+    (tie.spec
+    (λ c. search needs)
+    (λ c. search needs)
+    (λ c. search needs)
+    (λ c. search needs)
+    (λ c. search needs)
+    (λ c κs. tt)
+    (λ c. search needs)
+    (λ c. search needs)
+    (λ c. search needs)
+    (λ c. search needs)
+    (λ c. rw (c .idle .ensures, c .before .before .k .given .1)))

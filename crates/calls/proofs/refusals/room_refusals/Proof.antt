@@ -1,0 +1,15 @@
+-- `refusals::room_refusals` meets its contract: two refusals. Assumes nothing.
+use Rattle.calls.specs.Verdicts.{along}
+use Rattle.calls.proofs.refusals.room_refusals.Statement.{statement}
+use Rattle.calls.proofs.refusals.room_refusals.Tie as tie
+
+pub room-refusals-spec : {M : Type 1} → statement M
+unfolding along
+room-refusals-spec =
+    tie.close
+    (tie.spec
+    (λ c κs. tt)
+    (λ c κs. tt)
+    (λ c κs. tt)
+    (λ c κs. tt)
+    (λ c. rw (c .slot-refusal .ensures, c .before .refuse-if .ensures, c .before .before .booked .ensures, c .before .before .before .free-cells .ensures)))

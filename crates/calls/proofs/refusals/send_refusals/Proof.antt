@@ -1,0 +1,19 @@
+-- `refusals::send_refusals` meets its contract: three refusals after those of the worker. Assumes nothing.
+use Rattle.calls.specs.Verdicts.{along}
+use Rattle.calls.proofs.refusals.send_refusals.Statement.{statement}
+use Rattle.calls.proofs.refusals.send_refusals.Tie as tie
+
+pub send-refusals-spec : {M : Type 1} → statement M
+unfolding along
+send-refusals-spec =
+    tie.close
+    (tie.spec
+    (λ c κs. tt)
+    (λ c κs. tt)
+    (λ c κs. tt)
+    (λ c κs. tt)
+    (λ c κs. tt)
+    (λ c κs. tt)
+    (λ c.
+    let d = c .before .before .before .before in
+    rw (c .refuse-if3 .ensures, c .before .is-free .ensures, c .before .before .refuse-if2 .ensures, c .before .before .before .refuse-if .ensures, d .worker-refusals .ensures, d .before .cell-at .ensures)))

@@ -1,0 +1,14 @@
+-- `refusals::slot_refusal` meets its contract: one refusal. Assumes nothing.
+use Rattle.calls.specs.Verdicts.{along}
+use Rattle.calls.proofs.refusals.slot_refusal.Statement.{statement}
+use Rattle.calls.proofs.refusals.slot_refusal.Tie as tie
+
+pub slot-refusal-spec : {M : Type 1} → statement M
+unfolding along
+slot-refusal-spec =
+    tie.close
+    (tie.spec
+    (λ c κs. tt)
+    (λ c κs. tt)
+    (λ c κs. tt)
+    (λ c. rw (c .refuse-if .ensures, c .before .both .ensures, c .before .before .lowest-empty-slot .ensures)))

@@ -1,0 +1,15 @@
+-- `Verdict::answer` meets its contract, by cases. Assumes nothing.
+use Rattle.calls.specs.Verdicts.{answered}
+use borrow.Author.Needs.{needs}
+use Rattle.calls.proofs.verdict.Verdict.answer.Statement.{statement}
+use Rattle.calls.proofs.verdict.Verdict.answer.Tie as tie
+
+pub answer-spec : {M : Type 1} → statement M
+unfolding answered
+answer-spec =
+    tie.close
+    (tie.spec
+    (λ c. search needs)
+    (λ c. search needs)
+    (λ c. rw (c .before .self .given .1))
+    (λ c. rw (c .enum-told .given .1)))

@@ -1,0 +1,2 @@
+-- The verdict that the calls carry along.
+pub mod Verdicts

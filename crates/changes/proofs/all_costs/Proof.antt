@@ -1,0 +1,48 @@
+-- `changes::all_costs` meets its contract: a sum over the slots. `good` says how many slots the state has. Assumes nothing.
+use Prim.Native.Nat.{_-_, _≤_}
+use native.Mathlib.Omega.{arith}
+use mathlib.Core.Path.{_≡_}
+use borrow.Author.Needs.{needs}
+use lib.ListN.{length, length-map}
+use Rattle.numbers.specs.ListLaws.{total-below}
+use Rattle.tables.specs.declared.Message.the-variants.{Empty}
+use Rattle.tables.specs.Machine.{eight}
+use Rattle.tables.specs.Look.{messageAt}
+use Rattle.passing.specs.Summing.{Summing, add-start, add-step, add-end}
+use Rattle.rules.specs.Calls.{costs, closed, B}
+use Rattle.changes.specs.Costs.{costs-small, sum-small}
+use Rattle.changes.proofs.all_costs.Statement.{statement}
+use Rattle.changes.proofs.all_costs.Tie as tie
+
+abbrev Inv-loop : tie.InvT-loop
+Inv-loop s live n₀ k₀ n k = Summing (λ j. costs eight (closed eight) live (messageAt (s .slots) j)) 64 k n
+
+abbrev μ-loop : tie.MeasureT-loop
+μ-loop s live n₀ k₀ n k = 64 - k
+
+pub all-costs-spec : {M : Type 1} → statement M
+unfolding B
+all-costs-spec =
+    tie.close
+    (tie.spec
+    Inv-loop
+    μ-loop
+    (λ c κs. tt)
+    (λ c. add-start _ _)
+    (λ c. search needs)
+    (λ c. search needs)
+    (λ c κs. tt)
+    (λ c.
+    let d = c .before .before .before in
+    let live = d .before .live-entries .result in
+    let few : live ≤ 255 = omega arith in
+    let message = messageAt (d .before .before .args .t1 .slots) in
+    omega (arith, d .loop .inv .sofar, sum-small eight (closed eight) live few message (d .loop .k), c .costs .ensures, costs-small eight (closed eight) live few (message (d .loop .k))))
+    (λ c. search needs)
+    (λ c. search needs)
+    (λ c. add-step (c .before .before .before .loop .inv) (omega arith) (c .costs .ensures) (omega arith))
+    (λ c.
+    let d = c .before .before in
+    let s = d .before .args .t1 in
+    let l : length (s .slots) ≡ 64 = simp length-map at (d .before .good .0 .1 .1 .1 .1 .1 .0 .1 .0 .1) in
+    rw (← d .live-entries .ensures, total-below (λ x. costs eight (closed eight) (d .live-entries .result) (x .message)) (s .slots) (record { message = Empty }), l) (add-end (c .before .loop .inv) (c .loop-test .left))))

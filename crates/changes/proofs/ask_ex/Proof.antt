@@ -1,0 +1,12 @@
+-- `changes::ask_ex` meets its contract, by cases. Assumes nothing.
+use Rattle.changes.proofs.ask_ex.Statement.{statement}
+use Rattle.changes.proofs.ask_ex.Tie as tie
+
+pub ask-ex-spec : {M : Type 1} → statement M
+ask-ex-spec =
+    tie.close
+    (tie.spec
+    (λ c κs. tt)
+    (λ c. rw (c .replied .ensures, c .before .if1 .taken))
+    (λ c κs. tt)
+    (λ c. rw (c .sent-for .ensures, c .before .if1 .left)))

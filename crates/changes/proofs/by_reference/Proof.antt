@@ -1,0 +1,20 @@
+-- `changes::by_reference` meets its contract. Assumes nothing.
+use Rattle.rules.specs.Calls.{byReference}
+use borrow.Author.Needs.{needs}
+use Rattle.changes.proofs.by_reference.Statement.{statement}
+use Rattle.changes.proofs.by_reference.Tie as tie
+
+pub by-reference-spec : {M : Type 1} → statement M
+unfolding byReference
+by-reference-spec =
+    tie.close
+    (tie.spec
+    (λ c κs. tt)
+    (λ c κs. tt)
+    (λ c. search needs)
+    (λ c κs. tt)
+    (λ c κs. tt)
+    (λ c κs. tt)
+    (λ c.
+    let d = c .before .before .before .before in
+    rw (c .with-cell-and-message .ensures, c .before .sends .ensures, c .before .before .keeps .ensures, c .before .before .before .lowest-empty-slot .ensures, d .cell-at .ensures)))

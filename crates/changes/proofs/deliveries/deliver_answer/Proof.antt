@@ -1,0 +1,14 @@
+-- `changes::deliveries::deliver_answer` meets its contract. Assumes nothing.
+use Rattle.rules.specs.Deliver.{deliverAnswer}
+use Rattle.changes.proofs.deliveries.deliver_answer.Statement.{statement}
+use Rattle.changes.proofs.deliveries.deliver_answer.Tie as tie
+
+pub deliver-answer-spec : {M : Type 1} → statement M
+unfolding deliverAnswer
+deliver-answer-spec =
+    tie.close
+    (tie.spec
+    (λ c κs. tt)
+    (λ c κs. tt)
+    (λ c κs. tt)
+    (λ c. rw (c .with-cell-and-message .ensures, c .before .known .ensures, c .before .before .cell-at .ensures)))

@@ -1,0 +1,18 @@
+-- `changes::deliveries::deliver_ask` meets its contract. Assumes nothing.
+use Rattle.rules.specs.Deliver.{deliverAsk}
+use Rattle.changes.proofs.deliveries.deliver_ask.Statement.{statement}
+use Rattle.changes.proofs.deliveries.deliver_ask.Tie as tie
+
+pub deliver-ask-spec : {M : Type 1} → statement M
+unfolding deliverAsk
+deliver-ask-spec =
+    tie.close
+    (tie.spec
+    (λ c κs. tt)
+    (λ c κs. tt)
+    (λ c κs. tt)
+    (λ c κs. tt)
+    (λ c κs. tt)
+    (λ c.
+    let d = c .before .before .before .before in
+    rw (c .with-entry-and-message .ensures, c .before .grown .ensures, c .before .before .supply-from .ensures, c .before .before .before .entry-weight .ensures, d .entry-at .ensures)))

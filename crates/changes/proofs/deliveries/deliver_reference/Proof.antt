@@ -1,0 +1,15 @@
+-- `changes::deliveries::deliver_reference` meets its contract: at the owner, or elsewhere. Assumes nothing.
+use borrow.Author.Tests.{eq-eqb, ne-eqb}
+use Rattle.rules.specs.Deliver.{deliverMessage}
+use Rattle.changes.proofs.deliveries.deliver_reference.Statement.{statement}
+use Rattle.changes.proofs.deliveries.deliver_reference.Tie as tie
+
+pub deliver-reference-spec : {M : Type 1} → statement M
+unfolding deliverMessage
+deliver-reference-spec =
+    tie.close
+    (tie.spec
+    (λ c κs. tt)
+    (λ c h q. rw (c .deliver-home .ensures, eq-eqb _ _ (c .before .if1 .taken)))
+    (λ c κs. tt)
+    (λ c h q. rw (c .deliver-away .ensures h q, ne-eqb _ _ (c .before .if1 .left))))

@@ -1,0 +1,14 @@
+-- `changes::deliveries::deliver_release` meets its contract. Assumes nothing.
+use Rattle.rules.specs.Deliver.{deliverRelease}
+use Rattle.changes.proofs.deliveries.deliver_release.Statement.{statement}
+use Rattle.changes.proofs.deliveries.deliver_release.Tie as tie
+
+pub deliver-release-spec : {M : Type 1} → statement M
+unfolding deliverRelease
+deliver-release-spec =
+    tie.close
+    (tie.spec
+    (λ c κs. tt)
+    (λ c κs. tt)
+    (λ c κs. tt)
+    (λ c. rw (c .with-entry-and-message .ensures, c .before .taken-off .ensures, c .before .before .entry-at .ensures)))

@@ -1,0 +1,17 @@
+-- `changes::deliveries::deliver_supply` meets its contract: in a sound state the weights are added. Assumes nothing.
+use Rattle.rules.specs.Deliver.{deliverSupply}
+use Rattle.changes.specs.Weights.{cell-weight}
+use Rattle.changes.proofs.deliveries.deliver_supply.Statement.{statement}
+use Rattle.changes.proofs.deliveries.deliver_supply.Tie as tie
+
+pub deliver-supply-spec : {M : Type 1} → statement M
+unfolding deliverSupply
+deliver-supply-spec =
+    tie.close
+    (tie.spec
+    (λ c κs. tt)
+    (λ c κs. tt)
+    (λ c κs. tt)
+    (λ c h q.
+    let d = c .before in
+    rw (c .with-cell-and-message .ensures, d .supplied .ensures q (rw (d .before .cell-at .ensures) (cell-weight _ _ h _ _)), d .before .cell-at .ensures)))

@@ -1,0 +1,14 @@
+-- `changes::deliveries::entry_end` meets its contract, by cases. Assumes nothing.
+use borrow.Author.Needs.{needs}
+use Rattle.changes.proofs.deliveries.entry_end.Statement.{statement}
+use Rattle.changes.proofs.deliveries.entry_end.Tie as tie
+
+pub entry-end-spec : {M : Type 1} → statement M
+entry-end-spec =
+    tie.close
+    (tie.spec
+    (λ c. search needs)
+    (λ c. search needs)
+    (λ c κs. tt)
+    (λ c. search needs)
+    (λ c. rw (c .end-kind .ensures, c .before .before .x .given .1)))

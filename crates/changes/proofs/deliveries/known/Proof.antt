@@ -1,0 +1,19 @@
+-- `changes::deliveries::known` meets its contract, by cases; one arm reads the fields of the EX. Assumes nothing.
+use borrow.Author.Needs.{needs}
+use Rattle.changes.proofs.deliveries.known.Statement.{statement}
+use Rattle.changes.proofs.deliveries.known.Tie as tie
+
+pub known-spec : {M : Type 1} → statement M
+known-spec =
+    tie.close
+    (tie.spec
+    (λ c. search needs)
+    (λ c. search needs)
+    (λ c. search needs)
+    (λ c. search needs)
+    (λ c. search needs)
+    (λ c. search needs)
+    (λ c. search needs)
+    (λ c. search needs)
+    (λ c. search needs)
+    (λ c. rw (c .before .k .given .1)))

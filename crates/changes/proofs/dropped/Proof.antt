@@ -1,0 +1,16 @@
+-- `changes::dropped` meets its contract, by cases. Assumes nothing.
+use borrow.Author.Needs.{needs}
+use Rattle.changes.proofs.dropped.Statement.{statement}
+use Rattle.changes.proofs.dropped.Tie as tie
+
+pub dropped-spec : {M : Type 1} → statement M
+dropped-spec =
+    tie.close
+    (tie.spec
+    (λ c κs. tt)
+    (λ c. search needs)
+    (λ c κs. tt)
+    (λ c κs. tt)
+    (λ c κs. tt)
+    (λ c. rw (c .with-cell-and-message .ensures, c .before .releases .ensures, c .before .before .lowest-empty-slot .ensures, c .before .before .before .if1 .taken))
+    (λ c. rw (c .with-cell .ensures, c .before .if1 .left)))

@@ -1,0 +1,20 @@
+-- `changes::keeps` meets its contract, by cases; one arm reads the fields of the EX. Assumes nothing.
+use borrow.Author.Needs.{needs}
+use Rattle.changes.proofs.keeps.Statement.{statement}
+use Rattle.changes.proofs.keeps.Tie as tie
+
+pub keeps-spec : {M : Type 1} → statement M
+keeps-spec =
+    tie.close
+    (tie.spec
+    (λ c. search needs)
+    (λ c. search needs)
+    (λ c. search needs)
+    (λ c. search needs)
+    (λ c. search needs)
+    (λ c. search needs)
+    (λ c. search needs)
+    (λ c. search needs)
+    (λ c. search needs)
+    (λ c. search needs)
+    (λ c. rw (c .before .k .given .1)))

@@ -1,0 +1,18 @@
+-- `changes::read_ex` meets its contract, by cases. Assumes nothing.
+use borrow.Author.Needs.{needs}
+use Rattle.changes.proofs.read_ex.Statement.{statement}
+use Rattle.changes.proofs.read_ex.Tie as tie
+
+pub read-ex-spec : {M : Type 1} → statement M
+read-ex-spec =
+    tie.close
+    (tie.spec
+    (λ c. search needs)
+    (λ c κs. tt)
+    (λ c. search needs)
+    (λ c κs. tt)
+    (λ c. search needs)
+    (λ c κs. tt)
+    (λ c. rw (c .sent-for .ensures, c .before .enum-told .given .1))
+    (λ c. rw (c .replied .ensures, c .before .enum-told2 .given .1))
+    (λ c. rw (c .replied2 .ensures, c .before .before .st .given .1)))

@@ -1,0 +1,19 @@
+-- `changes::releases` meets its contract, by cases; one arm reads the fields of the EX. Assumes nothing.
+use borrow.Author.Needs.{needs}
+use Rattle.changes.proofs.releases.Statement.{statement}
+use Rattle.changes.proofs.releases.Tie as tie
+
+pub releases-spec : {M : Type 1} → statement M
+releases-spec =
+    tie.close
+    (tie.spec
+    (λ c. search needs)
+    (λ c. search needs)
+    (λ c. search needs)
+    (λ c. search needs)
+    (λ c. search needs)
+    (λ c. search needs)
+    (λ c. search needs)
+    (λ c. search needs)
+    (λ c. search needs)
+    (λ c. rw (c .before .k .given .1)))

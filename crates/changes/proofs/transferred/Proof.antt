@@ -1,0 +1,14 @@
+-- `changes::transferred` meets its contract. Assumes nothing.
+use borrow.Author.Needs.{needs}
+use Rattle.changes.proofs.transferred.Statement.{statement}
+use Rattle.changes.proofs.transferred.Tie as tie
+
+pub transferred-spec : {M : Type 1} → statement M
+transferred-spec =
+    tie.close
+    (tie.spec
+    (λ c κs. tt)
+    (λ c. search needs)
+    (λ c κs. tt)
+    (λ c κs. tt)
+    (λ c. rw (c .with-cell-and-message .ensures, c .before .sends-whole .ensures, c .before .before .lowest-empty-slot .ensures)))

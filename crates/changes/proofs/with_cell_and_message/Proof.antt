@@ -1,0 +1,11 @@
+-- `changes::with_cell_and_message` meets its contract: two stores. Assumes nothing.
+use Rattle.changes.proofs.with_cell_and_message.Statement.{statement}
+use Rattle.changes.proofs.with_cell_and_message.Tie as tie
+
+pub with-cell-and-message-spec : {M : Type 1} → statement M
+with-cell-and-message-spec =
+    tie.close
+    (tie.spec
+    (λ c κs. tt)
+    (λ c κs. tt)
+    (λ c. rw (c .with-message .ensures, c .before .put-cell .ensures)))

@@ -1,0 +1,350 @@
+// What a delivery does where it is not refused, message by message.
+ghost use Prim.Native.Nat.{_≤_, _-_, min};
+ghost use mathlib.Core.Path.{_≡_};
+ghost use mathlib.Core.Bool.{true};
+ghost use Rattle.tables.specs.declared.Message.the-variants.{Reference};
+ghost use Rattle.tables.specs.Machine.{eight, tables};
+ghost use Rattle.tables.specs.Parts.{exWeight, entryWeight};
+ghost use Rattle.rules.specs.Answers.{reply};
+ghost use Rattle.rules.specs.Sound.{sound};
+ghost use Rattle.rules.specs.Refusals.{entryEnd};
+ghost use Rattle.rules.specs.Deliver.{takenOff, cellOf, joined, known, supplied, grown, readOnEx, readOn, arrives, deliverMessage};
+ghost use Rattle.rules.specs.Deliver.{deliverHome, deliverAway, deliverRelease, deliverRead, deliverAnswer, deliverSupply, deliverAsk};
+ghost use Rattle.rules.specs.Cases.{messageWeight};
+use super::add_weights;
+use super::replied;
+use super::with_cell_and_message;
+use super::with_entry_and_message;
+use super::with_message;
+use tables::Holding;
+use tables::Kind;
+use tables::Message;
+use tables::Outcome;
+use tables::Reply;
+use tables::State;
+use tables::Status;
+
+// ---- what becomes of an entry and of a cell
+
+// The weight is taken off the entry, which is freed at 0.
+fn taken_off(w: u32, x: Holding) -> Holding
+    ensures { λ r. ⌜ r ≡ takenOff w x ⌝ }
+{
+    match x {
+        Holding::Unused => Holding::Unused,
+        Holding::Live {
+            cell,
+            weight,
+            tainted,
+        } => {
+            if weight <= w {
+                Holding::Unused
+            } else {
+                Holding::Live {
+                    cell: cell,
+                    weight: weight - w,
+                    tainted: tainted,
+                }
+            }
+        }
+    }
+}
+
+// The cell that an entry names.
+fn cell_of(x: Holding) -> u8
+    ensures { λ r. ⌜ r ≡ cellOf x ⌝ }
+{
+    match x {
+        Holding::Unused => 0,
+        Holding::Live { cell, .. } => cell,
+    }
+}
+
+// The weight joins the EX, or the cell becomes such an EX, idle.
+fn joined(o: u8, e: u8, w: u32, k: Kind) -> Kind
+    ensures { λ r. ⌜ (w ≤ 1048576 → exWeight k ≤ 1048576 → r ≡ joined o e w k) ⌝ }
+{
+    let fresh = Kind::Ex {
+        owner: o,
+        entry: e,
+        weight: w,
+        status: Status::Idle,
+        asking: false,
+    };
+    match k {
+        Kind::Free => fresh,
+        Kind::Var => fresh,
+        Kind::Val(_) => fresh,
+        Kind::Ref(_) => fresh,
+        Kind::Ex {
+            owner,
+            entry,
+            weight,
+            status,
+            asking,
+        } => Kind::Ex {
+            owner: owner,
+            entry: entry,
+            weight: add_weights(weight, w),
+            status: status,
+            asking: asking,
+        },
+    }
+}
+
+// The EX is known with v.
+fn known(v: u32, k: Kind) -> Kind
+    ensures { λ r. ⌜ r ≡ known v k ⌝ }
+{
+    match k {
+        Kind::Free => k,
+        Kind::Var => k,
+        Kind::Val(_) => k,
+        Kind::Ref(_) => k,
+        Kind::Ex {
+            owner,
+            entry,
+            weight,
+            asking,
+            ..
+        } => Kind::Ex {
+            owner: owner,
+            entry: entry,
+            weight: weight,
+            status: Status::Known(v),
+            asking: asking,
+        },
+    }
+}
+
+// Weight added, no longer asking.
+fn supplied(w: u32, k: Kind) -> Kind
+    ensures { λ r. ⌜ (w ≤ 1048576 → exWeight k ≤ 1048576 → r ≡ supplied w k) ⌝ }
+{
+    match k {
+        Kind::Free => k,
+        Kind::Var => k,
+        Kind::Val(_) => k,
+        Kind::Ref(_) => k,
+        Kind::Ex {
+            owner,
+            entry,
+            weight,
+            status,
+            ..
+        } => Kind::Ex {
+            owner: owner,
+            entry: entry,
+            weight: add_weights(weight, w),
+            status: status,
+            asking: false,
+        },
+    }
+}
+
+// What an Ask is given by an entry of this weight: the smaller of 1,024 and what is left below the ceiling.
+fn supply_from(weight: u32) -> u32
+    ensures { λ r. ⌜ r ≡ min 1024 (1048576 - weight) ⌝ }
+{
+    if 1048576 <= weight {
+        return 0;
+    }
+    let left = 1048576 - weight;
+    if 1024 <= left { 1024 } else { left }
+}
+
+// The entry that an Ask finds gains what it gives.
+fn grown(x: Holding) -> Holding
+    ensures { λ r. ⌜ r ≡ grown (min 1024 (1048576 - entryWeight x)) x ⌝ }
+{
+    match x {
+        Holding::Unused => Holding::Unused,
+        Holding::Live {
+            cell,
+            weight,
+            tainted,
+        } => Holding::Live {
+            cell: cell,
+            weight: weight + supply_from(weight),
+            tainted: tainted,
+        },
+    }
+}
+
+// The end of the cell that a live entry of worker o names.
+pub fn entry_end(s: State, o: u8, x: Holding) -> Kind
+    ensures { λ r. ⌜ r ≡ entryEnd eight (tables s) o x ⌝ }
+{
+    match x {
+        Holding::Unused => Kind::Free,
+        Holding::Live { cell, .. } => lookups::end_kind(s, o, cell),
+    }
+}
+
+// What a Read for the cell c of worker r becomes at an EX, by its status.
+fn read_on_ex(r: u8, c: u8, o: u8, e: u8, st: Status) -> Message
+    ensures { λ m. ⌜ m ≡ readOnEx r c o e st ⌝ }
+{
+    let on = Message::Read {
+        reader: r,
+        cell: c,
+        owner: o,
+        entry: e,
+    };
+    match st {
+        Status::Idle => on,
+        Status::Reading => on,
+        Status::Known(v) => Message::Answer {
+            reader: r,
+            cell: c,
+            n: v,
+        },
+    }
+}
+
+// What a Read m for the cell c of worker r becomes at the end k.
+fn read_on(r: u8, c: u8, m: Message, k: Kind) -> Message
+    ensures { λ n. ⌜ n ≡ readOn r c m k ⌝ }
+{
+    match k {
+        Kind::Free => m,
+        Kind::Var => m,
+        Kind::Val(v) => Message::Answer {
+            reader: r,
+            cell: c,
+            n: v,
+        },
+        Kind::Ref(_) => m,
+        Kind::Ex {
+            owner,
+            entry,
+            status,
+            ..
+        } => read_on_ex(r, c, owner, entry, status),
+    }
+}
+
+// ---- each message, in the slot k
+
+// The cell of worker w where a Reference to the entry e of worker o arrives.
+fn arrives(s: State, w: u8, o: u8, e: u8) -> u8
+    ensures { λ r. ⌜ r ≡ arrives eight (tables s) w o e ⌝ }
+{
+    let x = lookups::ex_naming(s, w, o, e);
+    if x < 32 {
+        return x;
+    }
+    lookups::lowest_free_cell(s, w)
+}
+
+// A Reference at the owner.
+fn deliver_home(s: State, k: u8, o: u8, e: u8, w: u32) -> Reply
+    ensures { λ r. ⌜ r ≡ reply (deliverHome eight (tables s) k o e w) ⌝ }
+{
+    let x = lookups::entry_at(s, o, e);
+    let value = Outcome::Done(cell_of(x) as u32);
+    let left = taken_off(w, x);
+    with_entry_and_message(value, s, o, e, left, k, Message::Empty)
+}
+
+// A Reference elsewhere.
+fn deliver_away(s: State, k: u8, to: u8, o: u8, e: u8, w: u32) -> Reply
+    ensures { λ r. ⌜ (sound eight (tables s) ≡ true → w ≤ 1048576 → r ≡ reply (deliverAway eight (tables s) k to o e w)) ⌝ }
+{
+    let c = arrives(s, to, o, e);
+    let ex = joined(o, e, w, lookups::cell_at(s, to, c));
+    with_cell_and_message(Outcome::Done(c as u32), s, to, c, ex, k, Message::Empty)
+}
+
+fn deliver_reference(s: State, k: u8, to: u8, o: u8, e: u8, w: u32) -> Reply
+    ensures { λ r. ⌜ (sound eight (tables s) ≡ true → w ≤ 1048576 → r ≡ reply (deliverMessage eight (tables s) k (Reference to o e w))) ⌝ }
+{
+    if to == o {
+        return deliver_home(s, k, o, e, w);
+    }
+    deliver_away(s, k, to, o, e, w)
+}
+
+fn deliver_release(s: State, k: u8, o: u8, e: u8, w: u32) -> Reply
+    ensures { λ r. ⌜ r ≡ reply (deliverRelease eight (tables s) k o e w) ⌝ }
+{
+    let left = taken_off(w, lookups::entry_at(s, o, e));
+    with_entry_and_message(Outcome::Done(0), s, o, e, left, k, Message::Empty)
+}
+
+fn deliver_read(s: State, k: u8, r: u8, c: u8, o: u8, e: u8) -> Reply
+    ensures { λ q. ⌜ q ≡ reply (deliverRead eight (tables s) k r c o e) ⌝ }
+{
+    let m = Message::Read {
+        reader: r,
+        cell: c,
+        owner: o,
+        entry: e,
+    };
+    let end = entry_end(s, o, lookups::entry_at(s, o, e));
+    with_message(Outcome::Done(0), s, k, read_on(r, c, m, end))
+}
+
+fn deliver_answer(s: State, k: u8, r: u8, c: u8, v: u32) -> Reply
+    ensures { λ q. ⌜ q ≡ reply (deliverAnswer eight (tables s) k r c v) ⌝ }
+{
+    let ex = known(v, lookups::cell_at(s, r, c));
+    with_cell_and_message(Outcome::Done(c as u32), s, r, c, ex, k, Message::Empty)
+}
+
+fn deliver_supply(s: State, k: u8, a: u8, c: u8, w: u32) -> Reply
+    ensures { λ r. ⌜ (sound eight (tables s) ≡ true → w ≤ 1048576 → r ≡ reply (deliverSupply eight (tables s) k a c w)) ⌝ }
+{
+    let ex = supplied(w, lookups::cell_at(s, a, c));
+    with_cell_and_message(Outcome::Done(c as u32), s, a, c, ex, k, Message::Empty)
+}
+
+fn deliver_ask(s: State, k: u8, a: u8, c: u8, o: u8, e: u8) -> Reply
+    ensures { λ r. ⌜ r ≡ reply (deliverAsk eight (tables s) k a c o e) ⌝ }
+{
+    let x = lookups::entry_at(s, o, e);
+    let m = Message::Supply {
+        asker: a,
+        cell: c,
+        weight: supply_from(parts::entry_weight(x)),
+    };
+    with_entry_and_message(Outcome::Done(0), s, o, e, grown(x), k, m)
+}
+
+// The message m in the slot k.
+pub fn deliver_message(s: State, k: u8, m: Message) -> Reply
+    ensures { λ r. ⌜ (sound eight (tables s) ≡ true → messageWeight m ≤ 1048576 → r ≡ reply (deliverMessage eight (tables s) k m)) ⌝ }
+{
+    match m {
+        Message::Empty => replied(Outcome::Done(0), s),
+        Message::Reference {
+            to,
+            owner,
+            entry,
+            weight,
+        } => deliver_reference(s, k, to, owner, entry, weight),
+        Message::Release {
+            owner,
+            entry,
+            weight,
+        } => deliver_release(s, k, owner, entry, weight),
+        Message::Read {
+            reader,
+            cell,
+            owner,
+            entry,
+        } => deliver_read(s, k, reader, cell, owner, entry),
+        Message::Answer { reader, cell, n } => deliver_answer(s, k, reader, cell, n),
+        Message::Ask {
+            asker,
+            cell,
+            owner,
+            entry,
+        } => deliver_ask(s, k, asker, cell, owner, entry),
+        Message::Supply {
+            asker,
+            cell,
+            weight,
+        } => deliver_supply(s, k, asker, cell, weight),
+    }
+}
