@@ -84,11 +84,10 @@ module _ (𝓜 : Machine) (s : Tables) where
         let i = t .first in
         let j = t .second in
         let j-in : j ≤ n = omega (arith, t .within) in
-        let same = index-same (ahead 𝓜 s i from) (ahead 𝓜 s j from) (seen i (omega (arith, t .before))) (seen j j-in) (t .same) in
-        (
-        i + (n - j),
-        omega (arith, t .before),
-        ahead-add 𝓜 s i (n - j) from ∙ ap (ahead 𝓜 s (n - j)) same ∙ sym (split j n j-in) ∙ q
+        let same = index-same (ahead 𝓜 s i from) (ahead 𝓜 s j from) (seen i (omega (arith, t .before))) (seen j j-in) (t .same) in (
+          i + (n - j),
+          omega (arith, t .before),
+          ahead-add 𝓜 s i (n - j) from ∙ ap (ahead 𝓜 s (n - j)) same ∙ sym (split j n j-in) ∙ q,
         )
 
     shorten : (fuel n : ℕ) → n ≤ fuel → ahead 𝓜 s n from ≡ At o e → (m : ℕ) × (m < 𝓜 .workers * 𝓜 .entries) × (ahead 𝓜 s m from ≡ At o e)

@@ -1,0 +1,2 @@
+-- The laws of the run's loop.
+pub mod Laws

@@ -1,0 +1,3 @@
+-- The text program: what it prints for a text, and into which buffer.
+pub mod Text
+pub mod Room

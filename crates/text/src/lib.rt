@@ -1,0 +1,71 @@
+// The text program's work: every line of a text is read through the reader, run, and answered into a lent buffer.
+ghost use mathlib.Core.Path.{_≡_};
+ghost use mathlib.Core.List.{_++_};
+ghost use Prim.Native.Nat.{_+_, _*_, _≤_};
+ghost use lib.ListN.{length, drop};
+ghost use Rattle.tables.specs.Machine.{tables, state};
+ghost use Rattle.frames.specs.AnswerLines.{withLine};
+ghost use Rattle.text.specs.Text.{printed, after, runText};
+ghost use Rattle.text.specs.Room.{ran, written, Within};
+use frames::Decoded;
+use reader::Found;
+use tables::State;
+
+// The answer to one line, written at a place of out, and the state after it.
+fn answer(s: State, frame: Decoded, out: &mut [u8], at: usize) -> State
+    requires { ⌜ at + 11 ≤ length (now out) ⌝ }
+    ensures { λ r. ⌜ r ≡ state (after (tables s) frame) ⌝ }
+    ensures { λ _. ⌜ now (out .exit) ≡ withLine (now (out .entry)) at (printed (tables s) frame) ⌝ }
+{
+    let Decoded::Frame(call) = frame else {
+        frames::put(out, at, frames::no_frame_line());
+        return s;
+    };
+    let reply = calls::step(s, call);
+    let outcome = reply.outcome;
+    let next = reply.state;
+    frames::put(out, at, frames::answer_line(outcome));
+    next
+}
+
+// Runs the input from the closed state, where out has room for it, and says how many bytes of answers stand at the front of out.
+fn run_lines(input: &[u8], out: &mut [u8]) -> usize
+    requires { ⌜ 11 * length (now input) + 11 ≤ length (now out) ⌝ }
+    ensures { λ n. ⌜ n ≡ length (runText (now (input .entry))) ⌝ }
+    ensures { λ n. ⌜ now (out .exit) ≡ runText (now (input .entry)) ++ drop n (now (out .entry)) ⌝ }
+{
+    if 65536 < input.len() {
+        frames::put(out, 0, frames::too_long_line());
+        return 11;
+    }
+    let mut s = changes::all_free(0);
+    let mut at = 0;
+    let mut pos = 0;
+    loop {
+        let Found::Line(frame, next) = reader::read_from(input, at) else {
+            return pos;
+        };
+        s = answer(s, frame, out, pos);
+        at = next;
+        pos += 11;
+    }
+}
+
+// How a run went: so many bytes of answers stand at the front of the buffer, or it has no room and is as it was.
+pub enum Ran {
+    NoRoom,
+    Wrote(usize),
+}
+
+// Runs a text from the closed state into a buffer, which has room where it has 11 bytes for each byte of the text and 11 more.
+pub fn run(input: &[u8], out: &mut [u8]) -> Ran
+    ensures { λ r. ⌜ r ≡ ran (now (input .entry)) (now (out .entry)) ⌝ }
+    ensures { λ r. ⌜ now (out .exit) ≡ written (now (input .entry)) (now (out .entry)) ⌝ }
+    ensures { λ r. ⌜ Within r (now (out .exit)) ⌝ }
+{
+    if out.len() / 11 <= input.len() {
+        return Ran::NoRoom;
+    }
+    let n = run_lines(input, out);
+    Ran::Wrote(n)
+}
