@@ -1,2 +1,3 @@
 -- What is shown of the calls together.
 pub mod OneOutcome
+pub mod Promise
