@@ -67,10 +67,9 @@ delivered-rules s ks n t (then {ks = rest} {n = m} k r c d) =
     let is : r ≡ reply (deliver eight (tables s) k) = c .1 in
     let next : tables (r .state) ≡ deliver eight (tables s) k .after = ap (λ (x : Reply). tables (x .state)) is in
     let won : succeeds (r .outcome) ≡ succeeds (deliver eight (tables s) k .outcome) = ap (λ (x : Reply). succeeds (x .outcome)) is in
-    let ih = delivered-rules (r .state) rest m t d in
-    (
-    ap₂ (λ (b : Bool) (i : ℕ). bit b + i) won (ih .0 ∙ ap (λ (x : Tables). successes eight x rest) next),
-    ih .1 ∙ ap (λ (x : Tables). drained eight x rest) next
+    let ih = delivered-rules (r .state) rest m t d in (
+      ap₂ (λ (b : Bool) (i : ℕ). bit b + i) won (ih .0 ∙ ap (λ (x : Tables). successes eight x rest) next),
+      ih .1 ∙ ap (λ (x : Tables). drained eight x rest) next,
     )
 
 -- ---- the promise, of the replies
@@ -84,9 +83,9 @@ promised s g =
       no-loops = D .no-loops (tables s) r;
       at-most-b = λ ks n t d. subst (λ (i : ℕ). i ≤ B eight (tables s)) (sym (delivered-rules s ks n t d .0)) (D .at-most-b (tables s) r ks);
       ready-succeeds =
-        λ ks n t d k x m. ap (λ (y : Reply). succeeds (y .outcome)) (m .1) ∙ subst (λ (y : Tables). succeeds (deliver eight y k .outcome) ≡ holdsReady eight y k) (sym (delivered-rules s ks n t d .1)) (D .ready-succeeds (tables s) r ks k);
+          λ ks n t d k x m. ap (λ (y : Reply). succeeds (y .outcome)) (m .1) ∙ subst (λ (y : Tables). succeeds (deliver eight y k .outcome) ≡ holdsReady eight y k) (sym (delivered-rules s ks n t d .1)) (D .ready-succeeds (tables s) r ks k);
       only-unbound-reads =
-        λ ks n t d rest k. let q = delivered-rules s ks n t d .1 in subst (λ (y : Tables). readOfUnbound eight y (message y k) ≡ true) (sym q) (D .only-unbound-reads (tables s) r ks (subst (AtRest eight) q rest) k);
+          λ ks n t d rest k. let q = delivered-rules s ks n t d .1 in subst (λ (y : Tables). readOfUnbound eight y (message y k) ≡ true) (sym q) (D .only-unbound-reads (tables s) r ks (subst (AtRest eight) q rest) k);
       brought =
-        λ ks n t d rest w c o e m v a is ends. let q = delivered-rules s ks n t d .1 in subst (λ (y : Tables). KnownWith eight y w c o e v) (sym q) (D .brought (tables s) r w c o e m v a is ends ks (subst (AtRest eight) q rest));
+          λ ks n t d rest w c o e m v a is ends. let q = delivered-rules s ks n t d .1 in subst (λ (y : Tables). KnownWith eight y w c o e v) (sym q) (D .brought (tables s) r w c o e m v a is ends ks (subst (AtRest eight) q rest));
     }

@@ -113,7 +113,7 @@ pub fn end_refusals(ex: bool, v: Verdict, s: State, w: u8, x: u8, to: u8) -> Ver
 
 // A read that comes to this end sends a Read.
 pub fn read_sends(k: Kind) -> bool
-    ensures { λ r. ⌜ r ≡ onEx false (λ o e n st a. readSends eight (closed eight) st) k ⌝ }
+    ensures { λ r. ⌜ r ≡ onEx false (λ o e n st a. readSends st) k ⌝ }
 {
     match k {
         Kind::Free => false,
@@ -125,7 +125,7 @@ pub fn read_sends(k: Kind) -> bool
 }
 
 fn idle(st: Status) -> bool
-    ensures { λ r. ⌜ r ≡ readSends eight (closed eight) st ⌝ }
+    ensures { λ r. ⌜ r ≡ readSends st ⌝ }
 {
     match st {
         Status::Idle => true,

@@ -6,12 +6,11 @@ use Rattle.numbers.specs.Below.{sumBelow}
 use Rattle.numbers.specs.BelowLaws.{sum-mono}
 use Rattle.tables.specs.declared.Message.{Message}
 use Rattle.tables.specs.declared.Message.the-variants.{Empty, Reference, Release, Read, Answer, Ask, Supply}
-use Rattle.tables.specs.Machine.{Machine, Tables}
 use Rattle.lookups.specs.Laws.{sum-same}
 use Rattle.rules.specs.Calls.{costs}
 
-module _ (𝓜 : Machine) (s : Tables) (E : ℕ) (few : E ≤ 255) where
-  pub costs-small : (m : Message) → costs 𝓜 s E m ≤ 257
+module _ (E : ℕ) (few : E ≤ 255) where
+  pub costs-small : (m : Message) → costs E m ≤ 257
   costs-small Empty = omega arith
   costs-small (Reference to o e n) = omega arith
   costs-small (Release o e n) = omega arith
@@ -21,6 +20,6 @@ module _ (𝓜 : Machine) (s : Tables) (E : ℕ) (few : E ≤ 255) where
   costs-small (Supply a c n) = omega arith
 
   -- of the first i messages
-  pub sum-small : (message : ℕ → Message) (i : ℕ) → sumBelow i (λ k. costs 𝓜 s E (message k)) ≤ i * 257
+  pub sum-small : (message : ℕ → Message) (i : ℕ) → sumBelow i (λ k. costs E (message k)) ≤ i * 257
   sum-small message i =
-      omega (arith, sum-mono i (λ k. costs 𝓜 s E (message k)) (λ k. 257) (λ k l. costs-small (message k)), sum-same i (λ k. 257) 257 (λ k. refl))
+      omega (arith, sum-mono i (λ k. costs E (message k)) (λ k. 257) (λ k l. costs-small (message k)), sum-same i (λ k. 257) 257 (λ k. refl))

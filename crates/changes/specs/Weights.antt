@@ -21,7 +21,7 @@ use Rattle.tables.specs.Machine.{Machine, Tables}
 use Rattle.tables.specs.Parts.{isFree, isUnused, exWeight, entryWeight}
 use Rattle.tables.specs.Look.{kindAt, holdingAt, cell, entry, message}
 use Rattle.rules.specs.Sound.{eachCell, eachEntry, eachMessage, workerIn, cellIn, entryIn, weightIn, kindInRange, holdingInRange, messageInRange, cellInRange, entryInRange, point1, sound}
-use Rattle.rules.specs.Cases.{messageWeight}
+use Rattle.tables.specs.Parts.{messageWeight}
 
 -- what each element has, and the default too, every place has
 anywhere : {A : Type 0} (p : ℕ → A → Bool) (q : A → Bool) (l : List A) (d : A) → ((i : ℕ) (x : A) → p i x ≡ true → q x ≡ true) → q d ≡ true → each p l ≡ true → (i : ℕ) → q (getD l i d) ≡ true

@@ -10,7 +10,7 @@ ghost use Rattle.rules.specs.Sound.{sound};
 ghost use Rattle.rules.specs.Refusals.{entryEnd};
 ghost use Rattle.rules.specs.Deliver.{takenOff, cellOf, joined, known, supplied, grown, readOnEx, readOn, arrives, deliverMessage};
 ghost use Rattle.rules.specs.Deliver.{deliverHome, deliverAway, deliverRelease, deliverRead, deliverAnswer, deliverSupply, deliverAsk};
-ghost use Rattle.rules.specs.Cases.{messageWeight};
+ghost use Rattle.tables.specs.Parts.{messageWeight};
 use super::add_weights;
 use super::replied;
 use super::with_cell_and_message;

@@ -127,7 +127,7 @@ pub fn entry_to_use(s: State, w: u8, c: u8) -> u8
 
 // The entry that a cell c exported by location uses: made with this taint, or with 1,024 gained.
 fn gains(c: u8, taint: bool, x: Holding) -> Holding
-    ensures { λ r. ⌜ (entryWeight x ≤ 1048576 → r ≡ gains eight (closed eight) 1024 c taint x) ⌝ }
+    ensures { λ r. ⌜ (entryWeight x ≤ 1048576 → r ≡ gains 1024 c taint x) ⌝ }
 {
     match x {
         Holding::Unused => Holding::Live {
@@ -165,7 +165,7 @@ pub fn by_location(s: State, w: u8, x: u8, to: u8, taint: bool) -> Reply
 
 // What an EX keeps and what it sends: half its weight, rounded down, is sent.
 fn keeps(k: Kind) -> Kind
-    ensures { λ r. ⌜ r ≡ keeps eight (closed eight) k ⌝ }
+    ensures { λ r. ⌜ r ≡ keeps eight k ⌝ }
 {
     match k {
         Kind::Free => k,
@@ -189,7 +189,7 @@ fn keeps(k: Kind) -> Kind
 }
 
 fn sends(to: u8, k: Kind) -> Message
-    ensures { λ r. ⌜ r ≡ sends eight (closed eight) to k ⌝ }
+    ensures { λ r. ⌜ r ≡ sends eight to k ⌝ }
 {
     match k {
         Kind::Free => Message::Empty,
@@ -240,7 +240,7 @@ pub fn export_end(ex: bool, s: State, w: u8, x: u8, to: u8) -> Reply
 
 // A transferred EX sends its whole weight as a Reference.
 fn sends_whole(to: u8, k: Kind) -> Message
-    ensures { λ r. ⌜ r ≡ sendsWhole eight (closed eight) to k ⌝ }
+    ensures { λ r. ⌜ r ≡ sendsWhole to k ⌝ }
 {
     match k {
         Kind::Free => Message::Empty,
@@ -263,7 +263,7 @@ fn sends_whole(to: u8, k: Kind) -> Message
 
 // The EX of the cell c, freed and sent.
 pub fn transferred(s: State, w: u8, c: u8, to: u8, ex: Kind) -> Reply
-    ensures { λ r. ⌜ r ≡ reply (sent eight (tables s) (putCell eight (tables s) w c Free) (sendsWhole eight (closed eight) to ex)) ⌝ }
+    ensures { λ r. ⌜ r ≡ reply (sent eight (tables s) (putCell eight (tables s) w c Free) (sendsWhole to ex)) ⌝ }
 {
     let slot = lookups::lowest_empty_slot(s);
     with_cell_and_message(
@@ -281,7 +281,7 @@ pub fn transferred(s: State, w: u8, c: u8, to: u8, ex: Kind) -> Reply
 
 // A dropped EX sends its whole weight as a Release.
 fn releases(k: Kind) -> Message
-    ensures { λ r. ⌜ r ≡ releases eight (closed eight) k ⌝ }
+    ensures { λ r. ⌜ r ≡ releases k ⌝ }
 {
     match k {
         Kind::Free => Message::Empty,
@@ -303,7 +303,7 @@ fn releases(k: Kind) -> Message
 
 // The cell c, which held k, is freed: an EX sends its weight, any other kind nothing.
 pub fn dropped(ex: bool, s: State, w: u8, c: u8, k: Kind) -> Reply
-    ensures { λ r. ⌜ r ≡ reply (cond ex (sent eight (tables s) (putCell eight (tables s) w c Free) (releases eight (closed eight) k)) (record { outcome = Done 64; after = putCell eight (tables s) w c Free })) ⌝ }
+    ensures { λ r. ⌜ r ≡ reply (cond ex (sent eight (tables s) (putCell eight (tables s) w c Free) (releases k)) (record { outcome = Done 64; after = putCell eight (tables s) w c Free })) ⌝ }
 {
     if ex {
         let slot = lookups::lowest_empty_slot(s);
@@ -428,7 +428,7 @@ pub fn ask_at(s: State, w: u8, x: u8, k: Kind) -> Reply
 
 // What a message counts, with this many live entries.
 fn costs(live: u8, m: Message) -> u32
-    ensures { λ r. ⌜ r ≡ costs eight (closed eight) live m ⌝ }
+    ensures { λ r. ⌜ r ≡ costs live m ⌝ }
 {
     match m {
         Message::Empty => 0,

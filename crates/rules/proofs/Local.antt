@@ -226,8 +226,8 @@ module _ (𝓜 : Machine) (L : Laws 𝓜) (s : Tables) (I : Invariant 𝓜 s) wh
   pub transfer-stays : (w c to : ℕ) → Invariant 𝓜 (transfer 𝓜 s w c to .after)
   unfolding transfer
   transfer-stays w c to =
-      after-checked (Invariant 𝓜) s (transferRefusals 𝓜 s w c to) (record { outcome = Done (lowestEmptySlot 𝓜 s); after = putMessage (putCell 𝓜 s w c Free) (lowestEmptySlot 𝓜 s) (sendsWhole 𝓜 s to (cell 𝓜 s w c)) }) I
-      (λ p. let u = worker-used to (search) in let x = the-ex (cell 𝓜 s w c) (not-false (search)) in let r = has-room 𝓜 L s (I .facts) to (search) in subst (λ (k : Kind). Invariant 𝓜 (putMessage (putCell 𝓜 s w c Free) (lowestEmptySlot 𝓜 s) (sendsWhole 𝓜 s to k))) (sym (x .is)) (frees-sent w c (x .owner) (x .entry) (x .weight) (x .status) (x .asking) (Reference to (x .owner) (x .entry) (x .weight)) (x .is) (search) (search) (reference-sends to (x .owner) (x .entry) (x .weight) (u .0) (weight-some w c (x .owner) (x .entry) (x .weight) (x .status) (x .asking) (x .is))) (room-sent 𝓜 L s (I .facts) to (x .owner) (x .entry) (x .weight) r)))
+      after-checked (Invariant 𝓜) s (transferRefusals 𝓜 s w c to) (record { outcome = Done (lowestEmptySlot 𝓜 s); after = putMessage (putCell 𝓜 s w c Free) (lowestEmptySlot 𝓜 s) (sendsWhole to (cell 𝓜 s w c)) }) I
+      (λ p. let u = worker-used to (search) in let x = the-ex (cell 𝓜 s w c) (not-false (search)) in let r = has-room 𝓜 L s (I .facts) to (search) in subst (λ (k : Kind). Invariant 𝓜 (putMessage (putCell 𝓜 s w c Free) (lowestEmptySlot 𝓜 s) (sendsWhole to k))) (sym (x .is)) (frees-sent w c (x .owner) (x .entry) (x .weight) (x .status) (x .asking) (Reference to (x .owner) (x .entry) (x .weight)) (x .is) (search) (search) (reference-sends to (x .owner) (x .entry) (x .weight) (u .0) (weight-some w c (x .owner) (x .entry) (x .weight) (x .status) (x .asking) (x .is))) (room-sent 𝓜 L s (I .facts) to (x .owner) (x .entry) (x .weight) r)))
 
   -- "drop"
   pub drop-stays : (w c : ℕ) → Invariant 𝓜 (drop 𝓜 s w c .after)
@@ -238,7 +238,7 @@ module _ (𝓜 : Machine) (L : Laws 𝓜) (s : Tables) (I : Invariant 𝓜 s) wh
     where
       dropped : Kind → Result
       dropped k =
-          cond (isEx k) (record { outcome = Done (lowestEmptySlot 𝓜 s); after = putMessage (putCell 𝓜 s w c Free) (lowestEmptySlot 𝓜 s) (releases 𝓜 s k) })
+          cond (isEx k) (record { outcome = Done (lowestEmptySlot 𝓜 s); after = putMessage (putCell 𝓜 s w c Free) (lowestEmptySlot 𝓜 s) (releases k) })
           (record { outcome = Done 64; after = putCell 𝓜 s w c Free })
 
       go : (k : Kind) → cell 𝓜 s w c ≡ k → isFree (cell 𝓜 s w c) ≡ false → busy 𝓜 s w c ≡ false → (isEx (cell 𝓜 s w c) && leb (𝓜 .slots) (lowestEmptySlot 𝓜 s)) ≡ false → Invariant 𝓜 (dropped k .after)

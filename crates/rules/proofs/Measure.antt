@@ -51,10 +51,10 @@ measure 𝓜 s r = total (λ x. spends 𝓜 s r (x .message)) (s .slots)
 pub measure-bound : (𝓜 : Machine) (L : Laws 𝓜) (s : Tables) (F : Facts 𝓜 s) (r : ℕ → ℕ → ℕ) → measure 𝓜 s r ≤ B 𝓜 s
 unfolding measure B
 measure-bound 𝓜 L s F r =
-    total-mono (λ (x : Slot). spends 𝓜 s r (x .message)) (λ (x : Slot). costs 𝓜 s (liveEntries s) (x .message)) (s .slots) (record { message = Empty })
+    total-mono (λ (x : Slot). spends 𝓜 s r (x .message)) (λ (x : Slot). costs (liveEntries s) (x .message)) (s .slots) (record { message = Empty })
     (λ k l. le (message s k))
   where
-    le : (m : Message) → spends 𝓜 s r m ≤ costs 𝓜 s (liveEntries s) m
+    le : (m : Message) → spends 𝓜 s r m ≤ costs (liveEntries s) m
     le Empty = omega arith
     le (Reference to o e w) = omega arith
     le (Release o e w) = omega arith

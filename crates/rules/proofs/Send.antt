@@ -82,7 +82,7 @@ module _ (𝓜 : Machine) (L : Laws 𝓜) (s : Tables) (I : Invariant 𝓜 s) wh
       k : ℕ
       k = lowestEmptySlot 𝓜 s
 
-      go : (b : Bool) → exported 𝓜 s w x ≡ b → leb (𝓜 .entries) (cond b (entryOf 𝓜 s w x) (lowestFreeEntry 𝓜 s w)) ≡ false → entryWeight (entry 𝓜 s w (cond b (entryOf 𝓜 s w x) (lowestFreeEntry 𝓜 s w))) + 𝓜 .firstWeight ≤ 𝓜 .ceiling → Invariant 𝓜 (putMessage (putEntry 𝓜 s w (cond b (entryOf 𝓜 s w x) (lowestFreeEntry 𝓜 s w)) (gains 𝓜 s (𝓜 .firstWeight) x taint (entry 𝓜 s w (cond b (entryOf 𝓜 s w x) (lowestFreeEntry 𝓜 s w))))) (lowestEmptySlot 𝓜 s) (Reference to w (cond b (entryOf 𝓜 s w x) (lowestFreeEntry 𝓜 s w)) (𝓜 .firstWeight)))
+      go : (b : Bool) → exported 𝓜 s w x ≡ b → leb (𝓜 .entries) (cond b (entryOf 𝓜 s w x) (lowestFreeEntry 𝓜 s w)) ≡ false → entryWeight (entry 𝓜 s w (cond b (entryOf 𝓜 s w x) (lowestFreeEntry 𝓜 s w))) + 𝓜 .firstWeight ≤ 𝓜 .ceiling → Invariant 𝓜 (putMessage (putEntry 𝓜 s w (cond b (entryOf 𝓜 s w x) (lowestFreeEntry 𝓜 s w)) (gains (𝓜 .firstWeight) x taint (entry 𝓜 s w (cond b (entryOf 𝓜 s w x) (lowestFreeEntry 𝓜 s w))))) (lowestEmptySlot 𝓜 s) (Reference to w (cond b (entryOf 𝓜 s w x) (lowestFreeEntry 𝓜 s w)) (𝓜 .firstWeight)))
       go true ex more below =
           let e = entryOf 𝓜 s w x in
           let n = the-entry-of x (entry 𝓜 s w e) (own-entry 𝓜 s w x ex) in
@@ -90,7 +90,7 @@ module _ (𝓜 : Machine) (L : Laws 𝓜) (s : Tables) (I : Invariant 𝓜 s) wh
           let fact = live-fact 𝓜 s (I .facts) w e (record { cell = x; weight = n .weight; tainted = n .tainted; is = n .is }) in
           let y = Live x (n .weight + 𝓜 .firstWeight) (n .tainted) in
           let less = leb-false (𝓜 .entries) e more in
-          subst (λ (h : Holding). Invariant 𝓜 (putMessage (putEntry 𝓜 s w e (gains 𝓜 s (𝓜 .firstWeight) x taint h)) (lowestEmptySlot 𝓜 s) (Reference to w e (𝓜 .firstWeight)))) (sym (n .is))
+          subst (λ (h : Holding). Invariant 𝓜 (putMessage (putEntry 𝓜 s w e (gains (𝓜 .firstWeight) x taint h)) (lowestEmptySlot 𝓜 s) (Reference to w e (𝓜 .firstWeight)))) (sym (n .is))
           (located w x to taint l e (Live x (n .weight) (n .tainted)) y less (n .is)
           (entry-next 𝓜 L s (I .facts) w e (Live x (n .weight) (n .tainted)) y (lowestEmptySlot 𝓜 s) Empty (Reference to w e (𝓜 .firstWeight)) (l .w-in) less (slot .0) (n .is) (slot .1) x (n .weight + 𝓜 .firstWeight) (n .tainted) (omega (arith, ap entryWeight (n .is))) (omega (arith, fact .1)) (fact .2) (fact .3))
           (λ a b. (refl, refl))
@@ -101,7 +101,7 @@ module _ (𝓜 : Machine) (L : Laws 𝓜) (s : Tables) (I : Invariant 𝓜 s) wh
           let free = free-entry 𝓜 L s (I .facts) w more in
           let slot = empty-slot 𝓜 L s (I .facts) (l .slot) in
           let y = Live x (𝓜 .firstWeight) taint in
-          subst (λ (h : Holding). Invariant 𝓜 (putMessage (putEntry 𝓜 s w e (gains 𝓜 s (𝓜 .firstWeight) x taint h)) (lowestEmptySlot 𝓜 s) (Reference to w e (𝓜 .firstWeight)))) (sym (free .1))
+          subst (λ (h : Holding). Invariant 𝓜 (putMessage (putEntry 𝓜 s w e (gains (𝓜 .firstWeight) x taint h)) (lowestEmptySlot 𝓜 s) (Reference to w e (𝓜 .firstWeight)))) (sym (free .1))
           (located w x to taint l e Unused y (free .0) (free .1)
           (entry-next 𝓜 L s (I .facts) w e Unused y (lowestEmptySlot 𝓜 s) Empty (Reference to w e (𝓜 .firstWeight)) (l .w-in) (free .0) (slot .0) (free .1) (slot .1) x (𝓜 .firstWeight) taint (omega (arith, ap entryWeight (free .1))) (L .first-some) (l .not-free) (λ u. ap (varValOrSafe 𝓜 s w) (l .own-end) ∙ l .good u))
           (λ a b. absurd-bool a refl)
@@ -120,7 +120,7 @@ module _ (𝓜 : Machine) (L : Laws 𝓜) (s : Tables) (I : Invariant 𝓜 s) wh
       let more : 1 < n = leb-false n 1 (sym (ap (λ (k : Kind). leb (exWeight k) 1) (y .is)) ∙ heavy) in
       let part = 𝓜 .split n in
       let less = L .split-less n more in
-      subst (λ (k : Kind). Invariant 𝓜 (putMessage (putCell 𝓜 s w x (keeps 𝓜 s k)) (lowestEmptySlot 𝓜 s) (sends 𝓜 s to k))) (sym (y .is))
+      subst (λ (k : Kind). Invariant 𝓜 (putMessage (putCell 𝓜 s w x (keeps 𝓜 k)) (lowestEmptySlot 𝓜 s) (sends 𝓜 to k))) (sym (y .is))
       (stays-ex 𝓜 L s (I .facts) I w x o e n (n - part) (y .status) (y .status) (y .asking) (y .asking) (lowestEmptySlot 𝓜 s) Empty (Reference to o e part)
       (record {
         i-in = slot .0;
@@ -234,7 +234,7 @@ module _ (𝓜 : Machine) (L : Laws 𝓜) (s : Tables) (I : Invariant 𝓜 s) wh
       x : ℕ
       x = end 𝓜 s w c
 
-      go : (k : Kind) → cell 𝓜 s w (end 𝓜 s w c) ≡ k → (onEx false (λ o e n st a. readSends 𝓜 s st) k && leb (𝓜 .slots) (lowestEmptySlot 𝓜 s)) ≡ false → Invariant 𝓜 (readAt 𝓜 s w (end 𝓜 s w c) k .after)
+      go : (k : Kind) → cell 𝓜 s w (end 𝓜 s w c) ≡ k → (onEx false (λ o e n st a. readSends st) k && leb (𝓜 .slots) (lowestEmptySlot 𝓜 s)) ≡ false → Invariant 𝓜 (readAt 𝓜 s w (end 𝓜 s w c) k .after)
       go Free q t = I
       go Var q t = I
       go (Val n) q t = I

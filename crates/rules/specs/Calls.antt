@@ -37,6 +37,38 @@ closed 𝓜 = allFree 𝓜 0
 unfoldable pub start : Machine → ℕ → Result
 start 𝓜 p = checked (closed 𝓜) (badCount 𝓜 p ∷ []) (record { outcome = Done 0; after = allFree 𝓜 p })
 
+-- ---- what the calls make of one part
+
+-- "Its entry, or the lowest free one made .., gains 1,024": the entry of the cell c, made with this taint
+abbrev pub gains : ℕ → ℕ → Bool → Holding → Holding
+gains first c taint Unused = Live c first taint
+gains first c taint (Live d n t) = Live d (n + first) t
+
+-- "Half its weight, rounded down, is sent; the rest stays."
+abbrev pub keeps : Machine → Kind → Kind
+keeps 𝓜 k = onEx k (λ o e n st a. Ex o e (n - 𝓜 .split n) st a) k
+
+abbrev pub sends : Machine → ℕ → Kind → Message
+sends 𝓜 to k = onEx Empty (λ o e n st a. Reference to o e (𝓜 .split n)) k
+
+-- "its whole weight sent as a Reference"
+abbrev pub sendsWhole : ℕ → Kind → Message
+sendsWhole to k = onEx Empty (λ o e n st a. Reference to o e n) k
+
+-- "An EX sends its whole weight as Release"
+abbrev pub releases : Kind → Message
+releases k = onEx Empty (λ o e n st a. Release o e n) k
+
+-- "1 for each Reference, Release, Answer and Supply, 2 for each Ask, and E + 1 for each Read"
+abbrev pub costs : ℕ → Message → ℕ
+costs E Empty = 0
+costs E (Reference to o e n) = 1
+costs E (Release o e n) = 1
+costs E (Read r c o e) = E + 1
+costs E (Answer r c n) = 1
+costs E (Ask a c o e) = 2
+costs E (Supply a c n) = 1
+
 module _ (𝓜 : Machine) (s : Tables) where
   -- "new(w): lowest free cell becomes VAR. Value: cell."
   unfoldable pub new : ℕ → Result
@@ -59,11 +91,6 @@ module _ (𝓜 : Machine) (s : Tables) where
       let k = lowestEmptySlot 𝓜 s in
       record { outcome = Done k; after = putMessage t k m }
 
-  -- "Its entry, or the lowest free one made .., gains 1,024": the entry of the cell c, made with this taint
-  abbrev pub gains : ℕ → ℕ → Bool → Holding → Holding
-  gains first c taint Unused = Live c first taint
-  gains first c taint (Live d n t) = Live d (n + first) t
-
   -- by location, the cell x itself: "a Reference of 1,024 is sent"
   unfoldable pub byLocation : ℕ → ℕ → ℕ → Bool → Result
   byLocation w x to taint =
@@ -71,14 +98,8 @@ module _ (𝓜 : Machine) (s : Tables) where
       sent (putEntry 𝓜 s w e (gains (𝓜 .firstWeight) x taint (entry 𝓜 s w e))) (Reference to w e (𝓜 .firstWeight))
 
   -- "by reference. Half its weight, rounded down, is sent; the rest stays."
-  abbrev pub keeps : Kind → Kind
-  keeps k = onEx k (λ o e n st a. Ex o e (n - 𝓜 .split n) st a) k
-
-  abbrev pub sends : ℕ → Kind → Message
-  sends to k = onEx Empty (λ o e n st a. Reference to o e (𝓜 .split n)) k
-
   unfoldable pub byReference : ℕ → ℕ → ℕ → Result
-  byReference w x to = sent (putCell 𝓜 s w x (keeps (cell 𝓜 s w x))) (sends to (cell 𝓜 s w x))
+  byReference w x to = sent (putCell 𝓜 s w x (keeps 𝓜 (cell 𝓜 s w x))) (sends 𝓜 to (cell 𝓜 s w x))
 
   -- "export(w, c, to): end VAR or VAL: by location .. untainted .. End EX: by reference. Value: slot."
   unfoldable pub export : ℕ → ℕ → ℕ → Result
@@ -94,17 +115,11 @@ module _ (𝓜 : Machine) (s : Tables) where
       checked s (indirectRefusals 𝓜 s w c to) (byLocation w (end 𝓜 s w c) to (not (safe 𝓜 s w (endKind 𝓜 s w c))))
 
   -- "transfer(w, c, to): c itself an EX, not busy; it is freed and its whole weight sent as a Reference. Value: slot."
-  abbrev pub sendsWhole : ℕ → Kind → Message
-  sendsWhole to k = onEx Empty (λ o e n st a. Reference to o e n) k
-
   unfoldable pub transfer : ℕ → ℕ → ℕ → Result
   transfer w c to =
       checked s (transferRefusals 𝓜 s w c to) (sent (putCell 𝓜 s w c Free) (sendsWhole to (cell 𝓜 s w c)))
 
   -- "drop(w, c): freed. An EX sends its whole weight as Release, value the slot; any other kind: value 64."
-  abbrev pub releases : Kind → Message
-  releases k = onEx Empty (λ o e n st a. Release o e n) k
-
   unfoldable pub drop : ℕ → ℕ → Result
   drop w c =
       let k = cell 𝓜 s w c in
@@ -146,15 +161,6 @@ module _ (𝓜 : Machine) (s : Tables) where
 
   -- "bound: value B, the sum of 1 for each Reference, Release, Answer and Supply, 2 for each Ask, and E + 1 for each Read, E the number of
   -- live entries."
-  abbrev pub costs : ℕ → Message → ℕ
-  costs E Empty = 0
-  costs E (Reference to o e n) = 1
-  costs E (Release o e n) = 1
-  costs E (Read r c o e) = E + 1
-  costs E (Answer r c n) = 1
-  costs E (Ask a c o e) = 2
-  costs E (Supply a c n) = 1
-
   unfoldable pub B : ℕ
   B =
       let E = liveEntries s in

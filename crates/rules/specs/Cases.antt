@@ -16,7 +16,7 @@ use Rattle.tables.specs.declared.Call.{Call}
 use Rattle.tables.specs.declared.Call.the-variants.{Start, New, Set, Bind, Export, Indirect, Transfer, Drop, ReadCell, AskWeight, Deliver}
 use Rattle.tables.specs.declared.Outcome.{Outcome}
 use Rattle.tables.specs.Machine.{Tables, eight}
-use Rattle.tables.specs.Parts.{exWeight, entryWeight}
+use Rattle.tables.specs.Parts.{exWeight, entryWeight, messageWeight}
 use Rattle.tables.specs.Look.{cell, entry, end, endKind, safe, entryOf, exported, referred, busy, lowestFreeCell, lowestFreeEntry, lowestEmptySlot, exNaming, freeCells, booked, liveEntries, message, putCell, putEntry, putMessage}
 use Rattle.rules.specs.Answers.{codeOf, valueOf, checked}
 use Rattle.rules.specs.Sound.{exesNaming, entriesNaming, readsOf, asksOf, follow, reached, held, point1, point2, point3, point4, point5, point6, sound}
@@ -24,16 +24,6 @@ use Rattle.rules.specs.Refusals.{entryToUse, ready}
 use Rattle.rules.specs.Calls.{allFree, closed, start, new, set, bind, byLocation, byReference, export, indirect, transfer, drop, read, ask, B, bound}
 use Rattle.rules.specs.Deliver.{arrives, deliverHome, deliverAway, deliverRelease, deliverRead, deliverAnswer, deliverSupply, deliverAsk, deliverMessage, deliver}
 use Rattle.rules.specs.Step.{step}
-
--- the weight that a message carries
-abbrev pub messageWeight : Message → ℕ
-messageWeight Empty = 0
-messageWeight (Reference to o e n) = n
-messageWeight (Release o e n) = n
-messageWeight (Read r c o e) = 0
-messageWeight (Answer r c n) = 0
-messageWeight (Ask a c o e) = 0
-messageWeight (Supply a c n) = n
 
 abbrev pub isSupply : Message → Bool
 isSupply Empty = false

@@ -21,6 +21,12 @@ use Rattle.rules.specs.Sound.{sound}
 abbrev pub badCount : Machine → ℕ → Check
 badCount 𝓜 p = WorkerCount when (eqb p 0 || ltb (𝓜 .workers) p)
 
+-- a read of an idle EX sends
+abbrev pub readSends : Status → Bool
+readSends Idle = true
+readSends Reading = false
+readSends (Known n) = false
+
 module _ (𝓜 : Machine) (s : Tables) where
   -- 2: "state not sound"
   abbrev pub notSound : Check
@@ -142,11 +148,6 @@ module _ (𝓜 : Machine) (s : Tables) where
 
   abbrev pub dropRefusals : ℕ → ℕ → List Check
   dropRefusals w c = notSound ∷ noWorker w ∷ noCell w c ∷ isBusy w c ∷ noSlotIf (isEx (cell 𝓜 s w c)) ∷ []
-
-  abbrev pub readSends : Status → Bool
-  readSends Idle = true
-  readSends Reading = false
-  readSends (Known n) = false
 
   abbrev pub readRefusals : ℕ → ℕ → List Check
   readRefusals w c =

@@ -136,3 +136,13 @@ goesTo w (Read r c o e) = false
 goesTo w (Answer r c n) = false
 goesTo w (Ask a c o e) = false
 goesTo w (Supply a c n) = false
+
+-- the weight that a message carries
+abbrev pub messageWeight : Message → ℕ
+messageWeight Empty = 0
+messageWeight (Reference to o e n) = n
+messageWeight (Release o e n) = n
+messageWeight (Read r c o e) = 0
+messageWeight (Answer r c n) = 0
+messageWeight (Ask a c o e) = 0
+messageWeight (Supply a c n) = n

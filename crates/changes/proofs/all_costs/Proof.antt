@@ -15,7 +15,7 @@ use Rattle.changes.proofs.all_costs.Statement.{statement}
 use Rattle.changes.proofs.all_costs.Tie as tie
 
 abbrev Inv-loop : tie.InvT-loop
-Inv-loop s live n₀ k₀ n k = Summing (λ j. costs eight (closed eight) live (messageAt (s .slots) j)) 64 k n
+Inv-loop s live n₀ k₀ n k = Summing (λ j. costs live (messageAt (s .slots) j)) 64 k n
 
 abbrev μ-loop : tie.MeasureT-loop
 μ-loop s live n₀ k₀ n k = 64 - k
@@ -37,7 +37,7 @@ all-costs-spec =
     let live = d .before .live-entries .result in
     let few : live ≤ 255 = omega arith in
     let message = messageAt (d .before .before .args .t1 .slots) in
-    omega (arith, d .loop .inv .sofar, sum-small eight (closed eight) live few message (d .loop .k), c .costs .ensures, costs-small eight (closed eight) live few (message (d .loop .k))))
+    omega (arith, d .loop .inv .sofar, sum-small live few message (d .loop .k), c .costs .ensures, costs-small live few (message (d .loop .k))))
     (λ c. search needs)
     (λ c. search needs)
     (λ c. add-step (c .before .before .before .loop .inv) (omega arith) (c .costs .ensures) (omega arith))
@@ -45,4 +45,4 @@ all-costs-spec =
     let d = c .before .before in
     let s = d .before .args .t1 in
     let l : length (s .slots) ≡ 64 = simp length-map at (d .before .good .0 .1 .1 .1 .1 .1 .0 .1 .0 .1) in
-    rw (← d .live-entries .ensures, total-below (λ x. costs eight (closed eight) (d .live-entries .result) (x .message)) (s .slots) (record { message = Empty }), l) (add-end (c .before .loop .inv) (c .loop-test .left))))
+    rw (← d .live-entries .ensures, total-below (λ x. costs (d .live-entries .result) (x .message)) (s .slots) (record { message = Empty }), l) (add-end (c .before .loop .inv) (c .loop-test .left))))
