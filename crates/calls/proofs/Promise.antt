@@ -2,7 +2,8 @@
 -- holds of the states in them. `Post` is a contract as Rattle reads it from the source. Assumes nothing.
 use Prim.Native.Nat.{ℕ, _+_, _≤_}
 use mathlib.Core.Path.{_≡_, refl, sym, ap, ap₂, subst, _∙_}
-use mathlib.Core.Bool.{Bool, true, false}
+use mathlib.Core.Bool.{Bool, true, false, not}
+use lib.Dec.{eqb}
 use mathlib.Core.List.{List, [], _∷_}
 use Rattle.numbers.specs.Below.{bit}
 use Rattle.tables.specs.declared.State.{State}
@@ -44,6 +45,7 @@ pub data DeliveredByReplies : State → List ℕ → ℕ → State → Type 0 wh
 pub record Promised (s : State) : Type 0 where
   pub is-sound : sound eight (tables s) ≡ true
   pub weights : (w e : ℕ) → entryWeight (entry eight (tables s) w e) ≡ held eight (tables s) w e
+  pub freed-at-nothing : (w e : ℕ) → isLive (entry eight (tables s) w e) ≡ not (eqb (held eight (tables s) w e) 0)
   pub no-loops : (o e : ℕ) → isLive (entry eight (tables s) o e) ≡ true → ComesToAnEnd eight (tables s) o e
   pub at-most-b : (ks : List ℕ) (n : ℕ) (t : State) → DeliveredByReplies s ks n t → n ≤ B eight (tables s)
   pub ready-succeeds : (ks : List ℕ) (n : ℕ) (t : State) → DeliveredByReplies s ks n t → (k : ℕ) (r : Reply) → Meets (deliver-contract.Post tt) (t, (k, tt)) r → succeeds (r .outcome) ≡ holdsReady eight (tables t) k
@@ -80,6 +82,7 @@ promised s g =
     record {
       is-sound = D .stays-sound (tables s) r;
       weights = D .weights (tables s) r;
+      freed-at-nothing = D .freed-at-nothing (tables s) r;
       no-loops = D .no-loops (tables s) r;
       at-most-b = λ ks n t d. subst (λ (i : ℕ). i ≤ B eight (tables s)) (sym (delivered-rules s ks n t d .0)) (D .at-most-b (tables s) r ks);
       ready-succeeds =
