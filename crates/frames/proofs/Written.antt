@@ -1,4 +1,4 @@
--- What a text with a line written into it has, and the loop of put. Assumes nothing.
+-- What a text with a line written into it has, and the loop that writes it. Assumes nothing.
 use Prim.Native.Nat.{ℕ, _+_, _≤_, _<_}
 use mathlib.Core.Path.{_≡_, refl, ap, _∙_}
 use mathlib.Core.List.{List, _++_}

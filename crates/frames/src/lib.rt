@@ -1,13 +1,13 @@
 // The text form of frames and answers: hexadecimal digits, the call that a line says, where a line ends, and the eleven bytes
 // of an answer.
 ghost use mathlib.Core.Path.{_≡_};
-ghost use Prim.Native.Nat.{_+_, _%_, _≤_};
+ghost use Prim.Native.Nat.{_%_, _≤_};
 ghost use lib.ListN.{length};
 ghost use Rattle.rules.specs.Answers.{numberOf, codeOf, valueOf};
 ghost use Rattle.frames.specs.Hex.{digitIn, digitOut, numberIn};
 ghost use Rattle.frames.specs.Frames.{fieldsOf, unusedAreZero, usesOnly, frameOf, decode};
 ghost use Rattle.frames.specs.Lines.{lineEnd};
-ghost use Rattle.frames.specs.AnswerLines.{lineOf, answerLine, noFrameLine, tooLongLine, withLine};
+ghost use Rattle.frames.specs.AnswerLines.{lineOf, answerLine, noFrameLine, tooLongLine};
 use tables::Call;
 use tables::Outcome;
 use tables::Refusal;
@@ -245,16 +245,4 @@ pub fn too_long_line() -> [u8; 11]
     ensures { λ r. ⌜ r ≡ tooLongLine ⌝ }
 {
     line_of(0xff, 0xffff_ffff)
-}
-
-// Writes a line into out, from a place on.
-pub fn put(out: &mut [u8], at: usize, line: [u8; 11])
-    requires { ⌜ at + 11 ≤ length (now out) ⌝ }
-    ensures { λ _. ⌜ now (out .exit) ≡ withLine (now (out .entry)) at line ⌝ }
-{
-    let mut i = 0;
-    while i < 11 {
-        out[at + i] = line[i];
-        i += 1;
-    }
 }

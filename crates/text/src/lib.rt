@@ -11,6 +11,18 @@ use frames::Decoded;
 use reader::Found;
 use tables::State;
 
+// Writes a line into out, from a place on.
+fn put(out: &mut [u8], at: usize, line: [u8; 11])
+    requires { ⌜ at + 11 ≤ length (now out) ⌝ }
+    ensures { λ _. ⌜ now (out .exit) ≡ withLine (now (out .entry)) at line ⌝ }
+{
+    let mut i = 0;
+    while i < 11 {
+        out[at + i] = line[i];
+        i += 1;
+    }
+}
+
 // The answer to one line, written at a place of out, and the state after it.
 fn answer(s: State, frame: Decoded, out: &mut [u8], at: usize) -> State
     requires { ⌜ at + 11 ≤ length (now out) ⌝ }
@@ -18,13 +30,13 @@ fn answer(s: State, frame: Decoded, out: &mut [u8], at: usize) -> State
     ensures { λ _. ⌜ now (out .exit) ≡ withLine (now (out .entry)) at (printed (tables s) frame) ⌝ }
 {
     let Decoded::Frame(call) = frame else {
-        frames::put(out, at, frames::no_frame_line());
+        put(out, at, frames::no_frame_line());
         return s;
     };
     let reply = calls::step(s, call);
     let outcome = reply.outcome;
     let next = reply.state;
-    frames::put(out, at, frames::answer_line(outcome));
+    put(out, at, frames::answer_line(outcome));
     next
 }
 
@@ -35,7 +47,7 @@ fn run_lines(input: &[u8], out: &mut [u8]) -> usize
     ensures { λ n. ⌜ now (out .exit) ≡ runText (now (input .entry)) ++ drop n (now (out .entry)) ⌝ }
 {
     if 65536 < input.len() {
-        frames::put(out, 0, frames::too_long_line());
+        put(out, 0, frames::too_long_line());
         return 11;
     }
     let mut s = changes::all_free(0);

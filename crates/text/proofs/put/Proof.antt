@@ -1,8 +1,8 @@
--- `frames::put` meets its contract: the line's first i bytes were written. Assumes nothing.
+-- `text::put` meets its contract: the line's first i bytes were written. Assumes nothing.
 use Prim.Native.Nat.{_-_}
 use Rattle.frames.proofs.Written.{Writing, writes}
-use Rattle.frames.proofs.put.Statement.{statement}
-use Rattle.frames.proofs.put.Tie as tie
+use Rattle.text.proofs.put.Statement.{statement}
+use Rattle.text.proofs.put.Tie as tie
 
 abbrev Inv-loop : tie.InvT-loop
 Inv-loop out₀ at line i₀ out i = Writing out₀ at line i out
