@@ -2,7 +2,7 @@
 ghost use mathlib.Core.Path.{_≡_};
 ghost use Rattle.tables.specs.Machine.{eight, tables};
 ghost use Rattle.rules.specs.Sound.{point2, point3};
-ghost use Rattle.names.specs.Names.{cellNamesSeen, safeSeen, entryNamesSeen};
+ghost use Rattle.names.specs.Names.{cellNamesSeen, namesNothing, safeSeen, entryNamesSeen};
 use numbers::bit_of;
 use numbers::both;
 use numbers::either;
@@ -28,12 +28,29 @@ fn cell_names(w: u8, k: Kind, end: Kind, entry: Holding, twins: u8) -> bool
     }
 }
 
+// A cell that holds k names no cell and no entry.
+fn names_nothing(k: Kind) -> bool
+    ensures { λ r. ⌜ r ≡ namesNothing k ⌝ }
+{
+    match k {
+        Kind::Free => true,
+        Kind::Var => true,
+        Kind::Val(_) => true,
+        Kind::Ref(_) => false,
+        Kind::Ex { .. } => false,
+    }
+}
+
 pub fn point_2(s: State) -> bool
     ensures { λ r. ⌜ r ≡ point2 eight (tables s) ⌝ }
 {
+    let mut good = true;
     for i in 0..256usize {
         let x = s.cells[i];
         let k = x.kind;
+        if names_nothing(k) {
+            continue;
+        }
         let w = (i / 32) as u8;
         let d = parts::end_from(k, 0);
         let j = places::cell_index(w, d);
@@ -43,24 +60,17 @@ pub fn point_2(s: State) -> bool
         let h = places::place_index(at);
         let z = s.entries[h];
         let held = z.holding;
-        let n = places::span(parts::is_ex(k), 32);
         let mut twins: u8 = 0;
-        for c in 0..n {
+        for c in 0..32usize {
             let other = s.cells[i / 32 * 32 + c];
             let kind = other.kind;
             twins += bit_of(places::names_place(at, kind));
         }
-        if !cell_names(
-            w,
-            k,
-            places::cell_seen(w, d, there),
-            places::place_seen(at, held),
-            twins,
-        ) {
-            return false;
-        }
+        let end = places::cell_seen(w, d, there);
+        let entry = places::place_seen(at, held);
+        good = both(good, cell_names(w, k, end, entry, twins));
     }
-    true
+    good
 }
 
 // ---- point 3
@@ -96,9 +106,13 @@ fn entry_names(w: u8, x: Holding, k: Kind, end: Kind, entry: Holding, twins: u8)
 pub fn point_3(s: State) -> bool
     ensures { λ r. ⌜ r ≡ point3 eight (tables s) ⌝ }
 {
+    let mut good = true;
     for i in 0..128usize {
         let x = s.entries[i];
         let holding = x.holding;
+        if parts::is_unused(holding) {
+            continue;
+        }
         let w = (i / 16) as u8;
         let c = places::cell_of(holding);
         let j = places::cell_index(w, c);
@@ -114,16 +128,14 @@ pub fn point_3(s: State) -> bool
         let h = places::place_index(at);
         let v = s.entries[h];
         let held = v.holding;
-        let n = places::span(parts::is_live(holding), 16);
         let mut twins: u8 = 0;
-        for e in 0..n {
+        for e in 0..16usize {
             let other = s.entries[i / 16 * 16 + e];
             let named = other.holding;
             twins += bit_of(parts::entry_names(c, named));
         }
-        if !entry_names(w, holding, k, end, places::place_seen(at, held), twins) {
-            return false;
-        }
+        let entry = places::place_seen(at, held);
+        good = both(good, entry_names(w, holding, k, end, entry, twins));
     }
-    true
+    good
 }

@@ -1,8 +1,7 @@
 // Look-ups for a loop that reads the state itself, since a call would copy it: the number to read at, and what is seen there. A cell or
 // an entry that there is none of is read at 0 and seen free.
 ghost use mathlib.Core.Path.{_≡_};
-ghost use mathlib.Core.Bool.{cond};
-ghost use Prim.Native.Nat.{_≤_, _<_};
+ghost use Prim.Native.Nat.{_<_};
 ghost use Rattle.tables.specs.declared.Place.the-variants.{At};
 ghost use Rattle.tables.specs.Machine.{eight};
 ghost use Rattle.places.specs.Places.{cellIndex, cellSeen, placeIndex, placeSeen, namesPlace, cellOf, waiterOf, cellFor};
@@ -132,12 +131,4 @@ pub fn cell_for(m: Message) -> u8
         Message::Ask { cell, .. } => cell,
         Message::Supply { cell, .. } => cell,
     }
-}
-
-// How far an inner loop goes: n where it is wanted, else not at all.
-pub fn span(wanted: bool, n: usize) -> usize
-    ensures { λ r. ⌜ r ≡ cond wanted n 0 ⌝ }
-    ensures { λ r. ⌜ r ≤ n ⌝ }
-{
-    if wanted { n } else { 0 }
 }

@@ -5,9 +5,12 @@ ghost use Rattle.rules.specs.Sound.{point1, eachCell, eachEntry, eachMessage};
 ghost use Rattle.rules.specs.Sound.{kindInRange, holdingInRange, messageInRange, cellInRange, entryInRange};
 use numbers::both;
 use numbers::either;
+use tables::Cell;
+use tables::Entry;
 use tables::Holding;
 use tables::Kind;
 use tables::Message;
+use tables::Slot;
 use tables::State;
 
 // With P workers.
@@ -75,52 +78,56 @@ fn message_in_range(p: u8, m: Message) -> bool
     }
 }
 
-fn cells_in_range(s: State) -> bool
-    ensures { λ r. ⌜ r ≡ eachCell eight (tables s) (cellInRange eight (tables s)) ⌝ }
+fn cells_in_range(p: u8, cells: [Cell; 256]) -> bool
+    ensures { λ r. ⌜ ((s : Tables) → s .p ≡ p → s .cells ≡ cells → r ≡ eachCell eight s (cellInRange eight s)) ⌝ }
 {
+    let mut good = true;
     for i in 0..256usize {
-        let x = s.cells[i];
+        let x = cells[i];
         let k = x.kind;
-        let there = either(((i / 32) as u8) < s.p, parts::is_free(k));
-        if !both(there, kind_in_range(s.p, k)) {
-            return false;
-        }
+        let there = either(((i / 32) as u8) < p, parts::is_free(k));
+        good = both(good, both(there, kind_in_range(p, k)));
     }
-    true
+    good
 }
 
-fn entries_in_range(s: State) -> bool
-    ensures { λ r. ⌜ r ≡ eachEntry eight (tables s) (entryInRange eight (tables s)) ⌝ }
+fn entries_in_range(p: u8, entries: [Entry; 128]) -> bool
+    ensures { λ r. ⌜ ((s : Tables) → s .p ≡ p → s .entries ≡ entries → r ≡ eachEntry eight s (entryInRange eight s)) ⌝ }
 {
+    let mut good = true;
     for i in 0..128usize {
-        let x = s.entries[i];
+        let x = entries[i];
         let holding = x.holding;
-        let there = either(((i / 16) as u8) < s.p, parts::is_unused(holding));
-        if !both(there, holding_in_range(holding)) {
-            return false;
-        }
+        let there = either(((i / 16) as u8) < p, parts::is_unused(holding));
+        good = both(good, both(there, holding_in_range(holding)));
     }
-    true
+    good
 }
 
-fn messages_in_range(s: State) -> bool
-    ensures { λ r. ⌜ r ≡ eachMessage eight (tables s) (messageInRange eight (tables s)) ⌝ }
+fn messages_in_range(p: u8, slots: [Slot; 64]) -> bool
+    ensures { λ r. ⌜ ((s : Tables) → s .p ≡ p → s .slots ≡ slots → r ≡ eachMessage eight s (messageInRange eight s)) ⌝ }
 {
+    let mut good = true;
     for i in 0..64usize {
-        let x = s.slots[i];
+        let x = slots[i];
         let m = x.message;
-        if !message_in_range(s.p, m) {
-            return false;
-        }
+        good = both(good, message_in_range(p, m));
     }
-    true
+    good
 }
 
 pub fn point_1(s: State) -> bool
     ensures { λ r. ⌜ r ≡ point1 eight (tables s) ⌝ }
 {
+    let p = s.p;
+    let cells = s.cells;
+    let entries = s.entries;
+    let slots = s.slots;
     both(
-        both(both(s.p <= 8, cells_in_range(s)), entries_in_range(s)),
-        messages_in_range(s),
+        both(
+            both(p <= 8, cells_in_range(p, cells)),
+            entries_in_range(p, entries),
+        ),
+        messages_in_range(p, slots),
     )
 }

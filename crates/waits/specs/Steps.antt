@@ -2,7 +2,7 @@
 use Prim.Native.Nat.{ℕ, _+_, _*_, _/_, _%_, _<_}
 use native.Mathlib.Omega.{arith}
 use mathlib.Core.Path.{_≡_, refl, ap, ap₂, _∙_}
-use mathlib.Core.Bool.{true, false, _&&_, cond}
+use mathlib.Core.Bool.{Bool, true, false, _&&_, cond}
 use mathlib.Core.List.{List}
 use mathlib.Core.Logic.{⊎-elim}
 use lib.Dec.{ltb}
@@ -11,7 +11,7 @@ use lib.Seq.{getD-set-same, getD-set-other}
 use lib.Arith.{digits-lt, digits-div, digits-mod}
 use borrow.Author.Tests.{ltb-true}
 use Rattle.numbers.specs.Below.{walkMeets}
-use Rattle.numbers.specs.Tests.{or-else, and-l, and-r}
+use Rattle.numbers.specs.Tests.{absurd-bool, or-else, and-l, and-r}
 use Rattle.numbers.specs.BelowLaws.{below-cases}
 use Rattle.tables.specs.declared.Kind.{Kind}
 use Rattle.tables.specs.declared.Holding.{Holding}
@@ -19,7 +19,7 @@ use Rattle.tables.specs.declared.Holding.the-variants.{Unused, Live}
 use Rattle.tables.specs.declared.Place.{Place}
 use Rattle.tables.specs.declared.Place.the-variants.{Nowhere, At}
 use Rattle.tables.specs.Machine.{Machine, Tables}
-use Rattle.tables.specs.Parts.{namedBy, endFrom, isAt}
+use Rattle.tables.specs.Parts.{namedBy, endFrom, isAt, isUnused}
 use Rattle.tables.specs.Look.{holdingAt, cell, entry, end, endKind}
 use Rattle.tables.specs.Laws.{entry-in}
 use Rattle.rules.specs.Sound.{through, follow, reached}
@@ -29,11 +29,6 @@ use Rattle.waits.specs.declared.Step.{Step}
 
 abbrev pub nextAt : List Step → ℕ → Place
 nextAt l i = getD l i (record { next = Nowhere }) .next
-
--- the reference that the end of an entry's cell is
-abbrev pub nextFrom : Holding → Kind → Place
-nextFrom Unused k = Nowhere
-nextFrom (Live c n t) k = namedBy k
 
 module _ (𝓜 : Machine) where
   -- the place after p, where next is read for it
@@ -64,20 +59,31 @@ module _ (𝓜 : Machine) (s : Tables) where
             (below-cases j n (omega arith));
       }
 
-  through-by : (w : ℕ) (x : Holding) {p : Place} → p ≡ nextFrom x (cell 𝓜 s w (endFrom (cell 𝓜 s w (cellOf x)) (cellOf x))) → p ≡ through 𝓜 s w x
-  unfolding endKind end
-  through-by w Unused h = h
-  through-by w (Live c n t) h = h
+  -- a free entry leads nowhere, and a live one where its cell's end does
+  through-unused : (w : ℕ) {b : Bool} (x : Holding) → b ≡ isUnused x → b ≡ true → Nowhere ≡ through 𝓜 s w x
+  through-unused w Unused h e = refl
+  through-unused w (Live c n t) h e = absurd-bool e h
 
-  -- what the code reads of an entry and of its cell's end is the step
-  pub step-read : (i : ℕ) {c d : ℕ} {k l : Kind} {next : Place} → i / 𝓜 .entries < 𝓜 .workers → i % 𝓜 .entries < 𝓜 .entries
-      → holdingAt (s .entries) i ≡ holdingAt (s .entries) (i / 𝓜 .entries * 𝓜 .entries + i % 𝓜 .entries)
-      → c ≡ cellOf (holdingAt (s .entries) i) → k ≡ cell 𝓜 s (i / 𝓜 .entries) c → d ≡ endFrom k c → l ≡ cell 𝓜 s (i / 𝓜 .entries) d
-      → next ≡ nextFrom (holdingAt (s .entries) i) l → next ≡ follow 𝓜 s (At (i / 𝓜 .entries) (i % 𝓜 .entries))
-  unfolding follow
-  step-read i w e here c k d l next =
-      rw (entry-in 𝓜 s (i / 𝓜 .entries) (i % 𝓜 .entries) w e, ← here)
-      (through-by (i / 𝓜 .entries) (holdingAt (s .entries) i) (rw (l, d, k, c) at next))
+  through-live : (w : ℕ) {b : Bool} (x : Holding) → b ≡ isUnused x → b ≡ false → namedBy (cell 𝓜 s w (endFrom (cell 𝓜 s w (cellOf x)) (cellOf x))) ≡ through 𝓜 s w x
+  unfolding endKind end
+  through-live w Unused h e = absurd-bool h e
+  through-live w (Live c n t) h e = refl
+
+  -- of the entry at the place i of the list
+  module _ (i : ℕ) (w : i / 𝓜 .entries < 𝓜 .workers) (e : i % 𝓜 .entries < 𝓜 .entries) (here : holdingAt (s .entries) i ≡ holdingAt (s .entries) (i / 𝓜 .entries * 𝓜 .entries + i % 𝓜 .entries)) where
+    follow-here : {p : Place} → p ≡ through 𝓜 s (i / 𝓜 .entries) (holdingAt (s .entries) i) → p ≡ follow 𝓜 s (At (i / 𝓜 .entries) (i % 𝓜 .entries))
+    unfolding follow
+    follow-here h = rw (entry-in 𝓜 s (i / 𝓜 .entries) (i % 𝓜 .entries) w e, ← here) h
+
+    pub no-step : {b : Bool} → b ≡ isUnused (holdingAt (s .entries) i) → b ≡ true → Nowhere ≡ follow 𝓜 s (At (i / 𝓜 .entries) (i % 𝓜 .entries))
+    no-step h t = follow-here (through-unused (i / 𝓜 .entries) (holdingAt (s .entries) i) h t)
+
+    -- what the code reads of a live entry and of its cell's end is the step
+    pub step-read : {c d : ℕ} {k l : Kind} {next : Place} {b : Bool} → b ≡ isUnused (holdingAt (s .entries) i) → b ≡ false
+        → c ≡ cellOf (holdingAt (s .entries) i) → k ≡ cell 𝓜 s (i / 𝓜 .entries) c → d ≡ endFrom k c → l ≡ cell 𝓜 s (i / 𝓜 .entries) d
+        → next ≡ namedBy l → next ≡ follow 𝓜 s (At (i / 𝓜 .entries) (i % 𝓜 .entries))
+    step-read h f c k d l next =
+        follow-here (rw (l, d, k, c) at next ∙ through-live (i / 𝓜 .entries) (holdingAt (s .entries) i) h f)
 
   entry-out : (o e : ℕ) → (ltb o (𝓜 .workers) && ltb e (𝓜 .entries)) ≡ false → entry 𝓜 s o e ≡ Unused
   unfolding entry

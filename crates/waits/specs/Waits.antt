@@ -1,11 +1,12 @@
 -- Point 4 by what a loop has read of one cell or message, and that this is what the point says. Assumes nothing.
 use Prim.Native.Nat.{ℕ, _*_}
-use mathlib.Core.Path.{_≡_, refl, _∙_}
-use mathlib.Core.Bool.{Bool, true, false, _&&_, _||_, not, cond}
+use mathlib.Core.Path.{_≡_, refl, sym, _∙_}
+use mathlib.Core.Bool.{Bool, true, false, _&&_, _||_, not}
 use mathlib.Core.List.{List}
 use lib.Dec.{leb, eqb}
 use lib.ListN.{length}
 use Rattle.numbers.specs.Below.{walkMeets, countBelow}
+use Rattle.numbers.specs.Tests.{absurd-bool}
 use Rattle.tables.specs.declared.Kind.{Kind}
 use Rattle.tables.specs.declared.Kind.the-variants.{Free, Var, Val, Ref, Ex}
 use Rattle.tables.specs.declared.Holding.{Holding}
@@ -14,7 +15,7 @@ use Rattle.tables.specs.declared.Message.the-variants.{Empty, Reference, Releas
 use Rattle.tables.specs.declared.Place.{Place}
 use Rattle.tables.specs.declared.Place.the-variants.{Nowhere, At}
 use Rattle.tables.specs.Machine.{Machine, Tables}
-use Rattle.tables.specs.Parts.{isReading, isAsking, exNames, namedBy, isAt, isLive}
+use Rattle.tables.specs.Parts.{isReading, isAsking, exNames, namedBy, isAt, isLive, isEmpty}
 use Rattle.tables.specs.Look.{messageAt, cell}
 use Rattle.lookups.specs.Laws.{count-total}
 use Rattle.rules.specs.Sound.{readsFor, asksFor, readsOf, asksOf, cellAwaited, messageHasIts}
@@ -42,6 +43,12 @@ messageSeen 𝓜 l k x (Answer r c n) = isReading k
 messageSeen 𝓜 l k x (Ask a c o e) = isAsking k && isLive x && exNames o e k
 messageSeen 𝓜 l k x (Supply a c n) = isAsking k
 
+-- where neither mark is set
+unmarked : (a b x y : Bool) → not (a || b) ≡ true → ((not a || x) && (not b || y)) ≡ true
+unmarked true b x y h = absurd-bool h refl
+unmarked false true x y h = absurd-bool h refl
+unmarked false false x y h = refl
+
 module _ (𝓜 : Machine) (s : Tables) where
   message-has : {l : List Step} → Followed 𝓜 s l (𝓜 .workers * 𝓜 .entries) → {r : Bool} (m : Message)
       → r ≡ messageSeen 𝓜 l (cell 𝓜 s (waiterOf m) (cellFor m)) (entryThere 𝓜 s (namedEntry m)) m → r ≡ messageHasIts 𝓜 s m
@@ -60,7 +67,7 @@ module _ (𝓜 : Machine) (s : Tables) where
       → r ≡ messageSeen 𝓜 l k x m → r ≡ messageHasIts 𝓜 s m
   message-has-by f m w c k at x h = message-has f m (rw (x, at, k, w, c) at h)
 
-  -- a cell's messages, counted where it waits for one
+  -- a cell's messages, where it waits for one
   awaited : (w c : ℕ) (k : Kind) → ((not (isReading k) || eqb (readsOf 𝓜 s w c) 1) && (not (isAsking k) || eqb (asksOf 𝓜 s w c) 1)) ≡ cellAwaited 𝓜 s w c k
   awaited w c Free = refl
   awaited w c Var = refl
@@ -76,19 +83,23 @@ module _ (𝓜 : Machine) (s : Tables) where
   unfolding asksOf
   asks-end w c h = count-total (λ x. asksFor w c (x .message)) (s .slots) _ h refl
 
-  counted : (a b : Bool) {m n reads asks x y : ℕ} → n ≡ cond (a || b) m 0
-      → (n ≡ m → reads ≡ x) → (n ≡ m → asks ≡ y)
-      → ((not a || eqb reads 1) && (not b || eqb asks 1)) ≡ ((not a || eqb x 1) && (not b || eqb y 1))
-  counted true true h f g = rw (f h, g h)
-  counted true false h f g = rw (f h)
-  counted false true h f g = rw (g h)
-  counted false false h f g = refl
-
-  pub cell-awaited-by : (w c : ℕ) {n reads asks : ℕ} {a b e r : Bool} (k : Kind) → length (s .slots) ≡ 𝓜 .slots
-      → a ≡ isReading k → b ≡ isAsking k → e ≡ (a || b) → n ≡ cond e (𝓜 .slots) 0
-      → reads ≡ countBelow n (λ j. readsFor w c (messageAt (s .slots) j)) → asks ≡ countBelow n (λ j. asksFor w c (messageAt (s .slots) j))
+  pub cell-awaited-by : (w c : ℕ) {reads asks : ℕ} {a b r : Bool} (k : Kind) → length (s .slots) ≡ 𝓜 .slots
+      → a ≡ isReading k → b ≡ isAsking k
+      → reads ≡ countBelow (𝓜 .slots) (λ j. readsFor w c (messageAt (s .slots) j)) → asks ≡ countBelow (𝓜 .slots) (λ j. asksFor w c (messageAt (s .slots) j))
       → r ≡ ((not a || eqb reads 1) && (not b || eqb asks 1)) → r ≡ cellAwaited 𝓜 s w c k
-  cell-awaited-by w c {a = a} {b} k size reading asking either n reads asks e =
-      e
-      ∙ counted a b (rw either at n) (λ q. rw q at reads ∙ reads-end w c size) (λ q. rw q at asks ∙ asks-end w c size)
-      ∙ rw (reading, asking) (awaited w c k)
+  cell-awaited-by w c k size reading asking reads asks e =
+      rw (reads ∙ reads-end w c size, asks ∙ asks-end w c size, reading, asking) at e ∙ awaited w c k
+
+  -- a cell that waits for nothing, and a slot that is empty, the point leaves alone
+  pub nothing-awaited : (w c : ℕ) {a b e : Bool} (k : Kind) → a ≡ isReading k → b ≡ isAsking k → e ≡ (a || b) → not e ≡ true → cellAwaited 𝓜 s w c k ≡ true
+  nothing-awaited w c k reading asking either none =
+      sym (awaited w c k) ∙ unmarked (isReading k) (isAsking k) _ _ (rw (either, reading, asking) at none)
+
+  pub empty-has : {b : Bool} (m : Message) → b ≡ isEmpty m → b ≡ true → messageHasIts 𝓜 s m ≡ true
+  empty-has Empty h e = refl
+  empty-has (Reference to o f n) h e = absurd-bool e h
+  empty-has (Release o f n) h e = absurd-bool e h
+  empty-has (Read r c o f) h e = absurd-bool e h
+  empty-has (Answer r c n) h e = absurd-bool e h
+  empty-has (Ask a c o f) h e = absurd-bool e h
+  empty-has (Supply a c n) h e = absurd-bool e h

@@ -5,7 +5,7 @@ ghost use Rattle.tables.specs.declared.Place.the-variants.{At};
 ghost use Rattle.tables.specs.Machine.{eight, tables};
 ghost use Rattle.tables.specs.Parts.{isAt};
 ghost use Rattle.rules.specs.Sound.{readsFor, asksFor, eachCell, eachMessage, cellAwaited, messageHasIts, point4};
-ghost use Rattle.waits.specs.Steps.{Followed, nextFrom, nextSeen, stepBy};
+ghost use Rattle.waits.specs.Steps.{Followed, nextSeen, stepBy};
 ghost use Rattle.waits.specs.Waits.{namedEntry, messageSeen};
 use numbers::bit_of;
 use numbers::both;
@@ -51,27 +51,29 @@ fn asks_for(w: u8, c: u8, m: Message) -> bool
 fn cells_awaited(s: State) -> bool
     ensures { λ r. ⌜ r ≡ eachCell eight (tables s) (cellAwaited eight (tables s)) ⌝ }
 {
+    let mut good = true;
     for i in 0..256usize {
         let x = s.cells[i];
         let k = x.kind;
-        let w = (i / 32) as u8;
-        let c = (i % 32) as u8;
         let reading = parts::is_reading(k);
         let asking = parts::is_asking(k);
-        let n = places::span(either(reading, asking), 64);
+        if !either(reading, asking) {
+            continue;
+        }
+        let w = (i / 32) as u8;
+        let c = (i % 32) as u8;
         let mut reads: u8 = 0;
         let mut asks: u8 = 0;
-        for j in 0..n {
+        for j in 0..64usize {
             let y = s.slots[j];
             let m = y.message;
             reads += bit_of(reads_for(w, c, m));
             asks += bit_of(asks_for(w, c, m));
         }
-        if !both(either(!reading, reads == 1), either(!asking, asks == 1)) {
-            return false;
-        }
+        let has = both(either(!reading, reads == 1), either(!asking, asks == 1));
+        good = both(good, has);
     }
-    true
+    good
 }
 
 // ---- one step along ends and references, for each entry
@@ -84,16 +86,7 @@ pub struct Steps {
     pub steps: [Step; 128],
 }
 
-// The reference that the end of the cell of an entry is: the entry holds x, the end `end`.
-fn next_from(x: Holding, end: Kind) -> Place
-    ensures { λ r. ⌜ r ≡ nextFrom x end ⌝ }
-{
-    match x {
-        Holding::Unused => Place::Nowhere,
-        Holding::Live { .. } => parts::named_by(end),
-    }
-}
-
+// A free entry leads nowhere.
 fn steps_of(s: State) -> Steps
     ensures { λ r. ⌜ Followed eight (tables s) (r .steps) 128 ⌝ }
 {
@@ -105,6 +98,12 @@ fn steps_of(s: State) -> Steps
     for i in 0..128usize {
         let x = s.entries[i];
         let holding = x.holding;
+        if parts::is_unused(holding) {
+            t.steps[i] = Step {
+                next: Place::Nowhere,
+            };
+            continue;
+        }
         let w = (i / 16) as u8;
         let c = places::cell_of(holding);
         let j = places::cell_index(w, c);
@@ -115,7 +114,7 @@ fn steps_of(s: State) -> Steps
         let g = places::cell_index(w, d);
         let z = s.cells[g];
         let far = z.kind;
-        let next = next_from(holding, places::cell_seen(w, d, far));
+        let next = parts::named_by(places::cell_seen(w, d, far));
         t.steps[i] = Step { next: next };
     }
     t
@@ -217,9 +216,13 @@ fn messages_have_theirs(s: State) -> bool
     ensures { λ r. ⌜ r ≡ eachMessage eight (tables s) (messageHasIts eight (tables s)) ⌝ }
 {
     let t = steps_of(s);
+    let mut good = true;
     for i in 0..64usize {
         let x = s.slots[i];
         let m = x.message;
+        if parts::is_empty(m) {
+            continue;
+        }
         let w = places::waiter_of(m);
         let c = places::cell_for(m);
         let j = places::cell_index(w, c);
@@ -230,11 +233,10 @@ fn messages_have_theirs(s: State) -> bool
         let z = s.entries[h];
         let held = z.holding;
         let k = places::cell_seen(w, c, there);
-        if !message_has_its(t, m, k, places::place_seen(at, held)) {
-            return false;
-        }
+        let entry = places::place_seen(at, held);
+        good = both(good, message_has_its(t, m, k, entry));
     }
-    true
+    good
 }
 
 pub fn point_4(s: State) -> bool

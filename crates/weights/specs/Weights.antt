@@ -5,6 +5,7 @@ use mathlib.Core.Bool.{Bool, true, _&&_, cond}
 use lib.Dec.{eqb}
 use lib.ListN.{length}
 use Rattle.numbers.specs.Below.{sumBelow}
+use Rattle.numbers.specs.Tests.{absurd-bool}
 use Rattle.numbers.specs.Lists.{total}
 use Rattle.numbers.specs.ListLaws.{total-below}
 use Rattle.tables.specs.declared.Kind.{Kind}
@@ -14,7 +15,7 @@ use Rattle.tables.specs.declared.Holding.the-variants.{Unused, Live}
 use Rattle.tables.specs.declared.Message.{Message}
 use Rattle.tables.specs.declared.Message.the-variants.{Empty, Reference, Release, Read, Answer, Ask, Supply}
 use Rattle.tables.specs.Machine.{Machine, Tables}
-use Rattle.tables.specs.Parts.{exNames, isLive}
+use Rattle.tables.specs.Parts.{exNames, isUnused}
 use Rattle.tables.specs.Look.{kindAt, messageAt, cell}
 use Rattle.rules.specs.Sound.{cellHolds, messageHolds, held, entryWeighs}
 use Rattle.places.specs.Places.{waiterOf, cellFor}
@@ -54,11 +55,14 @@ module _ (𝓜 : Machine) (s : Tables) (o e : ℕ) where
   messages-hold : {n : ℕ} → length (s .slots) ≡ n → sumBelow n (λ j. messageHolds 𝓜 s o e (messageAt (s .slots) j)) ≡ total (λ x. messageHolds 𝓜 s o e (x .message)) (s .slots)
   messages-hold h = sym (rw h at (total-below (λ x. messageHolds 𝓜 s o e (x .message)) (s .slots) (record { message = Empty })))
 
-  pub entry-weighs-by : {m n cells slots : ℕ} {b r : Bool} (x : Holding) → length (s .cells) ≡ 𝓜 .workers * 𝓜 .cells → length (s .slots) ≡ 𝓜 .slots
-      → b ≡ isLive x → n ≡ cond b (𝓜 .workers * 𝓜 .cells) 0 → m ≡ cond b (𝓜 .slots) 0
-      → cells ≡ sumBelow n (λ j. cellHolds 𝓜 s o e (kindAt (s .cells) j)) → slots ≡ sumBelow m (λ j. messageHolds 𝓜 s o e (messageAt (s .slots) j))
+  -- a free entry the point leaves alone
+  pub unused-weighs : {b : Bool} (x : Holding) → b ≡ isUnused x → b ≡ true → entryWeighs 𝓜 s o e x ≡ true
+  unused-weighs Unused h t = refl
+  unused-weighs (Live c w tainted) h t = absurd-bool t h
+
+  pub entry-weighs-by : {cells slots : ℕ} {r : Bool} (x : Holding) → length (s .cells) ≡ 𝓜 .workers * 𝓜 .cells → length (s .slots) ≡ 𝓜 .slots
+      → cells ≡ sumBelow (𝓜 .workers * 𝓜 .cells) (λ j. cellHolds 𝓜 s o e (kindAt (s .cells) j)) → slots ≡ sumBelow (𝓜 .slots) (λ j. messageHolds 𝓜 s o e (messageAt (s .slots) j))
       → r ≡ weighsSeen (cells + slots) x → r ≡ entryWeighs 𝓜 s o e x
   unfolding held
-  entry-weighs-by Unused p q b n m cells slots h = h
-  entry-weighs-by (Live c w t) p q b n m cells slots h =
-      rw (rw (n, b) at cells ∙ cells-hold p, rw (m, b) at slots ∙ messages-hold q) at h
+  entry-weighs-by Unused p q cells slots h = h
+  entry-weighs-by (Live c w t) p q cells slots h = rw (cells ∙ cells-hold p, slots ∙ messages-hold q) at h

@@ -4,6 +4,7 @@ ghost use mathlib.Core.Bool.{cond};
 ghost use Rattle.tables.specs.Machine.{Tables, eight, tables};
 ghost use Rattle.rules.specs.Sound.{cellHolds, point5, point6};
 ghost use Rattle.weights.specs.Weights.{messageHoldsSeen, weighsSeen};
+use numbers::bit_of;
 use numbers::both;
 use tables::Holding;
 use tables::Kind;
@@ -74,22 +75,23 @@ fn weighs(x: Holding, n: u64) -> bool
 pub fn point_5(s: State) -> bool
     ensures { λ r. ⌜ r ≡ point5 eight (tables s) ⌝ }
 {
+    let mut good = true;
     for i in 0..128usize {
         let x = s.entries[i];
         let holding = x.holding;
+        if parts::is_unused(holding) {
+            continue;
+        }
         let o = (i / 16) as u8;
         let e = (i % 16) as u8;
-        let live = parts::is_live(holding);
-        let n = places::span(live, 256);
         let mut in_cells: u64 = 0;
-        for j in 0..n {
+        for j in 0..256usize {
             let y = s.cells[j];
             let k = y.kind;
             in_cells += cell_holds(o, e, k) as u64;
         }
-        let m = places::span(live, 64);
         let mut in_slots: u64 = 0;
-        for j in 0..m {
+        for j in 0..64usize {
             let y = s.slots[j];
             let message = y.message;
             let w = places::waiter_of(message);
@@ -99,11 +101,9 @@ pub fn point_5(s: State) -> bool
             let there = z.kind;
             in_slots += message_holds(o, e, message, places::cell_seen(w, c, there)) as u64;
         }
-        if !weighs(holding, in_cells + in_slots) {
-            return false;
-        }
+        good = both(good, weighs(holding, in_cells + in_slots));
     }
-    true
+    good
 }
 
 // ---- point 6
@@ -111,11 +111,22 @@ pub fn point_5(s: State) -> bool
 pub fn point_6(s: State) -> bool
     ensures { λ r. ⌜ r ≡ point6 eight (tables s) ⌝ }
 {
+    let mut good = true;
     for w in 0..s.p {
-        let room = lookups::booked(s, w) <= lookups::free_cells(s, w);
-        if !room {
-            return false;
+        let mut booked: u8 = 0;
+        for k in 0..64usize {
+            let x = s.slots[k];
+            let m = x.message;
+            booked += bit_of(parts::goes_to(w, m));
         }
+        let mut free: u8 = 0;
+        for c in 0..32u8 {
+            let j = places::cell_index(w, c);
+            let x = s.cells[j];
+            let there = x.kind;
+            free += bit_of(parts::is_free(places::cell_seen(w, c, there)));
+        }
+        good = both(good, booked <= free);
     }
-    true
+    good
 }

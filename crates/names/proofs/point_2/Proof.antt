@@ -1,32 +1,31 @@
--- `names::point_2` meets its contract: every cell passed names what it may. Assumes nothing.
+-- `names::point_2` meets its contract: whether every cell passed names what it may. Assumes nothing.
 use Prim.Native.Nat.{_+_, _*_, _-_, _/_, _%_, _<_}
 use native.Mathlib.Omega.{arith}
 use mathlib.Core.Path.{_≡_}
 use borrow.Author.Needs.{needs}
 use lib.ListN.{length, length-map}
 use Rattle.numbers.specs.Loops.{Counting, count-start, count-step, count-end}
-use Rattle.tables.specs.declared.Kind.the-variants.{Free}
 use Rattle.tables.specs.Machine.{eight, tables}
 use Rattle.tables.specs.Look.{kindAt}
 use Rattle.lookups.specs.Laws.{bit-small}
 use Rattle.rules.specs.Sound.{cellNames, point2}
-use Rattle.passing.specs.Passing.{Passing, pass-start, pass-step, pass-stop, pass-end}
+use Rattle.passing.specs.Passing.{Passing, pass-start, pass-over, pass-step, pass-each}
 use Rattle.places.specs.Places.{namesPlace, cell-read, entry-read}
-use Rattle.names.specs.Names.{cell-names-by}
+use Rattle.names.specs.Names.{nothing-named, cell-names-by}
 use Rattle.names.proofs.point_2.Statement.{statement}
 use Rattle.names.proofs.point_2.Tie as tie
 
 abbrev Inv-loop2 : tie.InvT-loop2
-Inv-loop2 s i k w d j there at h held n twins₀ c₀ twins c = Counting (λ m. namesPlace at (kindAt (s .cells) (i / 32 * 32 + m))) n c twins
+Inv-loop2 s good i k w d j there at h held twins₀ c₀ twins c = Counting (λ m. namesPlace at (kindAt (s .cells) (i / 32 * 32 + m))) 32 c twins
 
 abbrev μ-loop2 : tie.MeasureT-loop2
-μ-loop2 s i k w d j there at h held n twins₀ c₀ twins c = n - c
+μ-loop2 s good i k w d j there at h held twins₀ c₀ twins c = 32 - c
 
 abbrev Inv-loop : tie.InvT-loop
-Inv-loop s i₀ i = Passing (λ j x. cellNames eight (tables s) (j / 32) (j % 32) (x .kind)) (s .cells) (record { kind = Free }) i
+Inv-loop s good₀ i₀ good i = Passing (λ j. cellNames eight (tables s) (j / 32) (j % 32) (kindAt (s .cells) j)) 256 i good
 
 abbrev μ-loop : tie.MeasureT-loop
-μ-loop s i₀ i = 256 - i
+μ-loop s good₀ i₀ good i = 256 - i
 
 pub point-2-spec : {M : Type 1} → statement M
 unfolding point2
@@ -37,9 +36,16 @@ point-2-spec =
     μ-loop2
     Inv-loop
     μ-loop
-    (λ c. pass-start _ _ _)
+    (λ c. pass-start _ _)
     (λ c. search needs)
     (λ c. search needs)
+    (λ c κs. tt)
+    (λ c. search needs)
+    (λ c. search needs)
+    (λ c.
+    let d = c .before in
+    let loop = d .before .before .before in
+    pass-over (loop .loop .inv) (d .before .before .loop-test .taken) (nothing-named eight _ _ _ (kindAt (loop .before .args .t1 .cells) (loop .loop .i)) (d .names-nothing .ensures) (c .if1 .taken)))
     (λ c. search needs)
     (λ c κs. tt)
     (λ c κs. tt)
@@ -49,8 +55,6 @@ point-2-spec =
     (λ c κs. tt)
     (λ c. search needs)
     (λ c. search needs)
-    (λ c κs. tt)
-    (λ c κs. tt)
     (λ c. count-start _ _)
     (λ c. search needs)
     (λ c. search needs)
@@ -58,63 +62,36 @@ point-2-spec =
     (λ c. search needs)
     (λ c κs. tt)
     (λ c κs. tt)
-    (λ c. omega (arith, bit-small (c .before .names-place .result) (c .bit-of .ensures), c .before .before .before .before .before .span .ensures .1))
+    (λ c. omega (arith, bit-small (c .before .names-place .result) (c .bit-of .ensures), c .before .before .before .before .loop2 .inv .small))
     (λ c. search needs)
     (λ c. search needs)
     (λ c. count-step (c .before .before .before .before .loop2 .inv) (c .before .before .before .loop2-test .taken) (c .before .names-place .ensures) (c .bit-of .ensures))
     (λ c κs. tt)
     (λ c κs. tt)
     (λ c κs. tt)
-    (λ c.
-    let d = c .before in
-    let e = d .before .before .before in
-    let loop = e .before .before .before .before .before .before .before .before .before .before .before .before in
-    let s = tables (loop .before .args .t1) in
-    let i = loop .loop .i in
-    let here = e .before .before .before .before .before .before .before .before .before .before .before .loop-test .taken in
-    let p = e .before .before in
-    let inside : i / 32 < 8 = omega arith in
-    let k = kindAt (s .cells) i in
-    let f = p .before .before .before in
-    let g = f .before .before .before in
-    let right =
-    cell-names-by eight s (i / 32) inside (i % 32) k
-    (g .before .end-from .ensures)
-    (cell-read eight s _ _ (g .cell-index .ensures .0) (d .before .before .cell-seen .ensures))
-    (f .before .named-by .ensures)
-    (entry-read eight s _ (f .place-index .ensures .0) (d .before .place-seen .ensures))
-    (p .before .is-ex .ensures)
-    (p .span .ensures .0)
-    (count-end (e .before .loop2 .inv) (e .loop2-test .left))
-    (d .cell-names .ensures) in
-    let l : length (loop .before .args .t1 .cells) ≡ 256 = simp length-map at (loop .before .good .0 .1 .1 .1 .0 .1 .0 .1) in
-    pass-stop (d .cell-names .result) (loop .loop .inv) l here (c .if1 .taken) right)
+    (λ c κs. tt)
     (λ c. search needs)
     (λ c. search needs)
     (λ c.
     let d = c .before in
     let e = d .before .before .before in
-    let loop = e .before .before .before .before .before .before .before .before .before .before .before .before in
+    let f = e .before .before .before in
+    let g = f .before .before .before in
+    let loop = g .before .before .before .before .before .before in
+    let here = g .before .before .before .before .before .loop-test .taken in
     let s = tables (loop .before .args .t1) in
     let i = loop .loop .i in
-    let here = e .before .before .before .before .before .before .before .before .before .before .before .loop-test .taken in
-    let p = e .before .before in
     let inside : i / 32 < 8 = omega arith in
-    let k = kindAt (s .cells) i in
-    let f = p .before .before .before in
-    let g = f .before .before .before in
-    let right =
-    cell-names-by eight s (i / 32) inside (i % 32) k
+    pass-step (loop .loop .inv) here
+    (cell-names-by eight s (i / 32) inside (i % 32) (kindAt (s .cells) i)
     (g .before .end-from .ensures)
     (cell-read eight s _ _ (g .cell-index .ensures .0) (d .before .before .cell-seen .ensures))
     (f .before .named-by .ensures)
     (entry-read eight s _ (f .place-index .ensures .0) (d .before .place-seen .ensures))
-    (p .before .is-ex .ensures)
-    (p .span .ensures .0)
     (count-end (e .before .loop2 .inv) (e .loop2-test .left))
-    (d .cell-names .ensures) in
-    pass-step (d .cell-names .result) (loop .loop .inv) (c .if1 .left) right)
+    (d .cell-names .ensures))
+    (c .both .ensures))
     (λ c.
     let start = c .before .before in
     let l : length (start .args .t1 .cells) ≡ 256 = simp length-map at (start .good .0 .1 .1 .1 .0 .1 .0 .1) in
-    pass-end (c .before .loop .inv) l (c .loop-test .left)))
+    pass-each (λ j x. cellNames eight (tables (start .args .t1)) (j / 32) (j % 32) (x .kind)) _ _ (c .before .loop .inv) l (c .loop-test .left)))

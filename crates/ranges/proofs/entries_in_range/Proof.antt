@@ -1,20 +1,19 @@
--- `ranges::entries_in_range` meets its contract: every entry passed is in range. Assumes nothing.
+-- `ranges::entries_in_range` meets its contract: whether every entry passed is in range. Assumes nothing.
 use Prim.Native.Nat.{_-_, _/_, _%_}
 use mathlib.Core.Path.{_≡_}
 use borrow.Author.Needs.{needs}
-use lib.ListN.{length, length-map}
-use Rattle.tables.specs.declared.Holding.the-variants.{Unused}
-use Rattle.tables.specs.Machine.{eight, tables}
+use Rattle.tables.specs.Machine.{Tables, eight}
+use Rattle.tables.specs.Look.{holdingAt}
 use Rattle.rules.specs.Sound.{entryInRange}
-use Rattle.passing.specs.Passing.{Passing, pass-start, pass-step, pass-stop, pass-end}
+use Rattle.passing.specs.Passing.{Passing, pass-start, pass-step, pass-each}
 use Rattle.ranges.proofs.entries_in_range.Statement.{statement}
 use Rattle.ranges.proofs.entries_in_range.Tie as tie
 
 abbrev Inv-loop : tie.InvT-loop
-Inv-loop s i₀ i = Passing (λ j x. entryInRange eight (tables s) (j / 16) (j % 16) (x .holding)) (s .entries) (record { holding = Unused }) i
+Inv-loop p entries good₀ i₀ good i = (s : Tables) → s .p ≡ p → Passing (λ j. entryInRange eight s (j / 16) (j % 16) (holdingAt entries j)) 128 i good
 
 abbrev μ-loop : tie.MeasureT-loop
-μ-loop s i₀ i = 128 - i
+μ-loop p entries good₀ i₀ good i = 128 - i
 
 pub entries-in-range-spec : {M : Type 1} → statement M
 entries-in-range-spec =
@@ -22,7 +21,7 @@ entries-in-range-spec =
     (tie.spec
     Inv-loop
     μ-loop
-    (λ c. pass-start _ _ _)
+    (λ c s h. pass-start _ _)
     (λ c. search needs)
     (λ c. search needs)
     (λ c. search needs)
@@ -30,18 +29,13 @@ entries-in-range-spec =
     (λ c κs. tt)
     (λ c κs. tt)
     (λ c κs. tt)
-    (λ c.
+    (λ c κs. tt)
+    (λ c. search needs)
+    (λ c. search needs)
+    (λ c s h.
     let d = c .before in
-    let start = c .before .before .before .before .before .before .before .before in
-    let l : length (start .args .t1 .entries) ≡ 128 = simp length-map at (start .good .0 .1 .1 .1 .1 .0 .1 .0 .1) in
-    pass-stop (d .both .result) (c .before .before .before .before .before .before .before .loop .inv) l (c .before .before .before .before .before .before .loop-test .taken) (c .if1 .taken) (rw (d .both .ensures, d .before .holding-in-range .ensures (tables (start .args .t1)), d .before .before .either .ensures, d .before .before .before .is-unused .ensures)))
-    (λ c. search needs)
-    (λ c. search needs)
-    (λ c.
-    let d = c .before in
-    let start = c .before .before .before .before .before .before .before .before in
-    pass-step (d .both .result) (c .before .before .before .before .before .before .before .loop .inv) (c .if1 .left) (rw (d .both .ensures, d .before .holding-in-range .ensures (tables (start .args .t1)), d .before .before .either .ensures, d .before .before .before .is-unused .ensures)))
-    (λ c.
+    let loop = d .before .before .before .before .before .before in
+    pass-step (loop .loop .inv s h) (d .before .before .before .before .before .loop-test .taken) (rw (d .both .ensures, d .before .holding-in-range .ensures s, d .before .before .either .ensures, d .before .before .before .is-unused .ensures, h)) (c .both2 .ensures))
+    (λ c s h e.
     let start = c .before .before in
-    let l : length (start .args .t1 .entries) ≡ 128 = simp length-map at (start .good .0 .1 .1 .1 .1 .0 .1 .0 .1) in
-    pass-end (c .before .loop .inv) l (c .loop-test .left)))
+    rw e (pass-each (λ j x. entryInRange eight s (j / 16) (j % 16) (x .holding)) (start .args .t2) _ (c .before .loop .inv s h) (start .good .1 .0 .1 .0 .1) (c .loop-test .left))))

@@ -1,4 +1,6 @@
 -- `ranges::point_1` meets its contract: P, the cells, the entries and the messages. Assumes nothing.
+use mathlib.Core.Path.{refl}
+use Rattle.tables.specs.Machine.{tables}
 use Rattle.rules.specs.Sound.{point1}
 use Rattle.ranges.proofs.point_1.Statement.{statement}
 use Rattle.ranges.proofs.point_1.Tie as tie
@@ -14,4 +16,7 @@ point-1-spec =
     (λ c κs. tt)
     (λ c κs. tt)
     (λ c κs. tt)
-    (λ c. rw (c .both3 .ensures, c .before .messages-in-range .ensures, c .before .before .both2 .ensures, c .before .before .before .entries-in-range .ensures, c .before .before .before .before .both .ensures, c .before .before .before .before .before .cells-in-range .ensures)))
+    (λ c.
+    let d = c .before .before .before in
+    let s = tables (d .before .before .before .before .before .before .args .s) in
+    rw (c .both3 .ensures, c .before .messages-in-range .ensures s refl refl, c .before .before .both2 .ensures, d .entries-in-range .ensures s refl refl, d .before .both .ensures, d .before .before .cells-in-range .ensures s refl refl)))

@@ -6,7 +6,7 @@ use borrow.Author.Needs.{needs}
 use Rattle.tables.specs.Machine.{eight, tables}
 use Rattle.tables.specs.Look.{holdingAt}
 use Rattle.places.specs.Places.{cell-read}
-use Rattle.waits.specs.Steps.{Followed, followed-none, followed-more, step-read}
+use Rattle.waits.specs.Steps.{Followed, followed-none, followed-more, no-step, step-read}
 use Rattle.waits.proofs.steps_of.Statement.{statement}
 use Rattle.waits.proofs.steps_of.Tie as tie
 
@@ -25,6 +25,18 @@ steps-of-spec =
     (λ c. (followed-none eight _ _ refl, search needs))
     (λ c. search needs)
     (λ c. search needs)
+    (λ c κs. tt)
+    (λ c. search needs)
+    (λ c. search needs)
+    (λ c. search needs)
+    (λ c. search needs)
+    (λ c.
+    let d = c .before in
+    let loop = d .before .before .before in
+    let s = tables (loop .before .args .t1) in
+    let i = loop .loop .i in
+    let same : i ≡ i / 16 * 16 + i % 16 = omega arith in
+    (followed-more eight s (loop .loop .inv .0) (omega arith) (no-step eight s i (omega arith) (omega arith) (ap (holdingAt (s .entries)) same) (d .is-unused .ensures) (c .if1 .taken)), search needs))
     (λ c. search needs)
     (λ c κs. tt)
     (λ c κs. tt)
@@ -44,18 +56,21 @@ steps-of-spec =
     (λ c.
     let g = c .before .before .before .before in
     let named = g .before .before .before .before in
-    let loop = named .before .before .before in
+    let d = named .before .before in
+    let loop = d .before .before .before in
     let s = tables (loop .before .args .t1) in
     let i = loop .loop .i in
     let same : i ≡ i / 16 * 16 + i % 16 = omega arith in
     let next =
     step-read eight s i (omega arith) (omega arith)
     (ap (holdingAt (s .entries)) same)
+    (d .is-unused .ensures)
+    (named .before .if1 .left)
     (named .cell-of .ensures)
     (cell-read eight s _ _ (g .before .before .before .cell-index .ensures .0) (g .before .cell-seen .ensures))
     (g .end-from .ensures)
     (cell-read eight s _ _ (c .before .before .before .cell-index2 .ensures .0) (c .before .cell-seen2 .ensures))
-    (c .next-from .ensures) in
+    (c .named-by .ensures) in
     (followed-more eight s (loop .loop .inv .0) (omega arith) next, search needs))
     (λ c.
     let full : c .before .loop .i ≡ 128 = omega arith in
