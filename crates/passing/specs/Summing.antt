@@ -21,6 +21,14 @@ add-step {f} {n} {i} s h e l =
     let next = sum-next i f in
     record { within = omega arith; sofar = omega arith; small = omega arith }
 
+-- the code leaves out a number that adds nothing
+pub add-over : {f : ℕ → ℕ} {n i k : ℕ} → Summing f n i k → i < n → f i ≡ 0 → Summing f n (i + 1) k
+add-over {f} {n} {i} s h e =
+    let small = s .small in
+    let so = s .sofar in
+    let next = sum-next i f in
+    record { within = omega arith; sofar = omega arith; small = omega arith }
+
 pub add-end : {f : ℕ → ℕ} {n i k : ℕ} → Summing f n i k → n ≤ i → k ≡ sumBelow n f
 add-end {f} {n} {i} s j =
     let h = s .within in

@@ -1,7 +1,7 @@
 -- Point 5 by what a loop has read of one message and added up for one entry, and that this is what the point says. Assumes nothing.
 use Prim.Native.Nat.{ℕ, _+_, _*_}
 use mathlib.Core.Path.{_≡_, refl, sym, _∙_}
-use mathlib.Core.Bool.{Bool, true, _&&_, cond}
+use mathlib.Core.Bool.{Bool, true, false, _&&_, cond}
 use lib.Dec.{eqb}
 use lib.ListN.{length}
 use Rattle.numbers.specs.Below.{sumBelow}
@@ -30,6 +30,16 @@ messageHoldsSeen o e k (Answer r c n) = 0
 messageHoldsSeen o e k (Ask a c owner entry) = 0
 messageHoldsSeen o e k (Supply a c n) = cond (exNames o e k) n 0
 
+-- a message holds nothing on any entry
+abbrev pub holdsNothing : Message → Bool
+holdsNothing Empty = true
+holdsNothing (Reference to o e n) = false
+holdsNothing (Release o e n) = false
+holdsNothing (Read r c o e) = true
+holdsNothing (Answer r c n) = true
+holdsNothing (Ask a c o e) = true
+holdsNothing (Supply a c n) = false
+
 -- an entry weighs n, where it is live
 abbrev pub weighsSeen : ℕ → Holding → Bool
 weighsSeen n Unused = true
@@ -48,6 +58,15 @@ module _ (𝓜 : Machine) (s : Tables) (o e : ℕ) where
   -- step by step as the code reads
   pub message-holds-by : {w c n : ℕ} {k : Kind} (m : Message) → w ≡ waiterOf m → c ≡ cellFor m → k ≡ cell 𝓜 s w c → n ≡ messageHoldsSeen o e k m → n ≡ messageHolds 𝓜 s o e m
   message-holds-by m w c k h = rw (k, w, c) at h ∙ message-holds m
+
+  pub nothing-held : {b : Bool} (m : Message) → b ≡ holdsNothing m → b ≡ true → messageHolds 𝓜 s o e m ≡ 0
+  nothing-held Empty h t = refl
+  nothing-held (Reference to owner entry n) h t = absurd-bool t h
+  nothing-held (Release owner entry n) h t = absurd-bool t h
+  nothing-held (Read r c owner entry) h t = refl
+  nothing-held (Answer r c n) h t = refl
+  nothing-held (Ask a c owner entry) h t = refl
+  nothing-held (Supply a c n) h t = absurd-bool t h
 
   cells-hold : {n : ℕ} → length (s .cells) ≡ n → sumBelow n (λ j. cellHolds 𝓜 s o e (kindAt (s .cells) j)) ≡ total (λ x. cellHolds 𝓜 s o e (x .kind)) (s .cells)
   cells-hold h = sym (rw h at (total-below (λ x. cellHolds 𝓜 s o e (x .kind)) (s .cells) (record { kind = Free })))

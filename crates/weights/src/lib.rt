@@ -3,7 +3,7 @@ ghost use mathlib.Core.Path.{_≡_};
 ghost use mathlib.Core.Bool.{cond};
 ghost use Rattle.tables.specs.Machine.{Tables, eight, tables};
 ghost use Rattle.rules.specs.Sound.{cellHolds, point5, point6};
-ghost use Rattle.weights.specs.Weights.{messageHoldsSeen, weighsSeen};
+ghost use Rattle.weights.specs.Weights.{messageHoldsSeen, holdsNothing, weighsSeen};
 use numbers::bit_of;
 use numbers::both;
 use tables::Holding;
@@ -62,6 +62,21 @@ fn message_holds(o: u8, e: u8, m: Message, k: Kind) -> u32
     }
 }
 
+// The message m holds nothing on any entry.
+fn holds_nothing(m: Message) -> bool
+    ensures { λ r. ⌜ r ≡ holdsNothing m ⌝ }
+{
+    match m {
+        Message::Empty => true,
+        Message::Reference { .. } => false,
+        Message::Release { .. } => false,
+        Message::Read { .. } => true,
+        Message::Answer { .. } => true,
+        Message::Ask { .. } => true,
+        Message::Supply { .. } => false,
+    }
+}
+
 // An entry that holds x weighs n, where it is live.
 fn weighs(x: Holding, n: u64) -> bool
     ensures { λ r. ⌜ r ≡ weighsSeen n x ⌝ }
@@ -94,6 +109,9 @@ pub fn point_5(s: State) -> bool
         for j in 0..64usize {
             let y = s.slots[j];
             let message = y.message;
+            if holds_nothing(message) {
+                continue;
+            }
             let w = places::waiter_of(message);
             let c = places::cell_for(message);
             let h = places::cell_index(w, c);

@@ -8,9 +8,9 @@ use Rattle.tables.specs.Machine.{eight, tables}
 use Rattle.tables.specs.Look.{kindAt, holdingAt, messageAt}
 use Rattle.rules.specs.Sound.{cellHolds, messageHolds, entryWeighs, point5}
 use Rattle.passing.specs.Passing.{Passing, pass-start, pass-over, pass-step, pass-each}
-use Rattle.passing.specs.Summing.{Summing, add-start, add-step, add-end}
+use Rattle.passing.specs.Summing.{Summing, add-start, add-step, add-over, add-end}
 use Rattle.places.specs.Places.{cell-read}
-use Rattle.weights.specs.Weights.{message-holds-by, unused-weighs, entry-weighs-by}
+use Rattle.weights.specs.Weights.{message-holds-by, nothing-held, unused-weighs, entry-weighs-by}
 use Rattle.weights.proofs.point_5.Statement.{statement}
 use Rattle.weights.proofs.point_5.Tie as tie
 
@@ -72,6 +72,15 @@ point-5-spec =
     (λ c. search needs)
     (λ c. search needs)
     (λ c κs. tt)
+    (λ c. search needs)
+    (λ c. search needs)
+    (λ c.
+    let d = c .before in
+    let within = d .before .before in
+    let start = within .before .before .before .before .before .before .before .before .before in
+    let s = tables (start .args .t1) in
+    add-over (within .before .loop3 .inv) (within .loop3-test .taken) (nothing-held eight s _ _ (messageAt (s .slots) (within .before .loop3 .j)) (d .holds-nothing .ensures) (c .if2 .taken)))
+    (λ c κs. tt)
     (λ c κs. tt)
     (λ c κs. tt)
     (λ c. search needs)
@@ -79,12 +88,12 @@ point-5-spec =
     (λ c κs. tt)
     (λ c κs. tt)
     (λ c. search needs)
-    (λ c. omega (arith, c .before .before .before .before .before .before .before .before .loop3 .inv .small))
+    (λ c. omega (arith, c .before .before .before .before .before .before .before .before .before .before .loop3 .inv .small))
     (λ c. search needs)
     (λ c. search needs)
     (λ c.
     let g = c .before .before .before in
-    let within = g .before .before .before .before in
+    let within = g .before .before .before .before .before .before in
     let loop = within .before .before .before .before .before .before .before .before in
     let s = tables (loop .before .args .t1) in
     let i = loop .loop .i in
