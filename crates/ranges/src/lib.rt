@@ -4,7 +4,6 @@ ghost use Rattle.tables.specs.Machine.{Tables, eight, tables};
 ghost use Rattle.rules.specs.Sound.{point1, eachCell, eachEntry, eachMessage};
 ghost use Rattle.rules.specs.Sound.{kindInRange, holdingInRange, messageInRange, cellInRange, entryInRange};
 use numbers::both;
-use numbers::either;
 use tables::Cell;
 use tables::Entry;
 use tables::Holding;
@@ -85,7 +84,10 @@ fn cells_in_range(p: u8, cells: [Cell; 256]) -> bool
     for i in 0..256usize {
         let x = cells[i];
         let k = x.kind;
-        let there = either(((i / 32) as u8) < p, parts::is_free(k));
+        if parts::is_free(k) {
+            continue;
+        }
+        let there = ((i / 32) as u8) < p;
         good = both(good, both(there, kind_in_range(p, k)));
     }
     good
@@ -98,7 +100,10 @@ fn entries_in_range(p: u8, entries: [Entry; 128]) -> bool
     for i in 0..128usize {
         let x = entries[i];
         let holding = x.holding;
-        let there = either(((i / 16) as u8) < p, parts::is_unused(holding));
+        if parts::is_unused(holding) {
+            continue;
+        }
+        let there = ((i / 16) as u8) < p;
         good = both(good, both(there, holding_in_range(holding)));
     }
     good
