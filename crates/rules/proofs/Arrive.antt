@@ -33,7 +33,7 @@ use Rattle.rules.proofs.Inside.{cell-inside, entry-inside, message-tota
 use Rattle.rules.proofs.Named.{the-live, ExOf, the-ex-of, eq-both, both-eq}
 use Rattle.rules.proofs.Derived.{live-fact, held-live, message-held, names-live, reading-cell, asking-cell, LivePlace, named-place, ahead-place}
 use Rattle.rules.specs.Change.{next, Keeps, Ranked, Invariant}
-use Rattle.rules.proofs.Next.{cell-here}
+use Rattle.rules.proofs.Next.{cell-stored}
 use Rattle.rules.proofs.Kept.{facts-kept}
 use Rattle.rules.proofs.Onward.{follow-live, nowhere-at, ahead-kept, ends-kept}
 use Rattle.rules.proofs.Count.{standing-some, standing-falls, EndIs, plain, leads, end-is}
@@ -359,7 +359,7 @@ module _ (𝓜 : Machine) (L : Laws 𝓜) (s : Tables) (I : Invariant 𝓜 s) (�
           let inside = cell-inside 𝓜 s r c (ap isFree i) in
           let M : ExMoves 𝓜 L s (I .facts) r c o e n n Reading (Known v) a a k (Answer r c v) Empty = record { i-in = within; old-cell = i; old-message = q; some = weight-some 𝓜 L s I r c o e n Reading a i; message-ok = tt; reads = λ x d. mark-off (eqb r x && eqb c d); asks = λ x d. refl; weights = λ x y. refl; holds-ok = λ x y. refl; room = λ x. omega (arith, I .facts .room x) } in
           let K = ex-keeps 𝓜 L s (I .facts) r c o e n n Reading (Known v) a a k (Answer r c v) Empty M in
-          let here = cell-here 𝓜 s h (I .facts .sized) (K .placed) in
+          let here = cell-stored 𝓜 s h (I .facts .sized) (K .placed) .here in
           let live = subst (LivePlace 𝓜 (next 𝓜 s h)) (ap namedBy here) (named-place 𝓜 (next 𝓜 s h) (facts-kept 𝓜 s h (I .facts) K) r c) in
           let now = ends-kept 𝓜 s h (I .facts) K (At o e) v live (subst (λ (p : Place). EndsIn 𝓜 s p v) (ap namedBy i) ends) in
           arrived-ex 𝓜 L s I ρ R r c o e n n Reading (Known v) a a k (Answer r c v) Empty M

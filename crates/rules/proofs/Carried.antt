@@ -1,11 +1,8 @@
 -- Reads stay on their chains, and what is known stays true, under a change that brings what it must. Assumes nothing.
 use Prim.Native.Nat.{ℕ}
-use native.Mathlib.Decide.{ℕ-discrete}
 use mathlib.Core.Path.{_≡_, refl, sym, ap, subst, _∙_}
 use mathlib.Core.Bool.{true}
-use mathlib.Core.Logic.{_⊎_, inl, inr}
-use borrow.Author.Tests.{eq-eqb}
-use Rattle.numbers.specs.Tests.{and-i}
+use mathlib.Core.Logic.{⊎-elim}
 use Rattle.tables.specs.declared.Status.{Status}
 use Rattle.tables.specs.declared.Status.the-variants.{Idle, Reading, Known}
 use Rattle.tables.specs.declared.Kind.{Kind}
@@ -19,9 +16,11 @@ use Rattle.tables.specs.Parts.{namedBy}
 use Rattle.tables.specs.Look.{cell, message}
 use Rattle.rules.specs.Sound.{readsFor}
 use Rattle.rules.specs.Facts.{Facts, ahead, ReadAhead, Reads, EndsIn, StatusFact, KnownFact, AnswerFact}
+use Rattle.rules.proofs.Named.{eq-both}
 use Rattle.rules.proofs.Derived.{reading-cell, LivePlace, named-place}
-use Rattle.rules.specs.Change.{Change, next, Placed, Keeps, Carries}
-use Rattle.rules.proofs.Next.{spot, cell-here, cell-there, message-here, message-there}
+use Rattle.rules.specs.Change.{Change, next, Keeps, Carries}
+use Rattle.rules.proofs.Stored.{stored-each}
+use Rattle.rules.proofs.Next.{cell-stored, messages-all}
 use Rattle.rules.proofs.Kept.{seen-name, reading-seen, facts-kept}
 use Rattle.rules.proofs.Onward.{ahead-kept, ends-kept}
 
@@ -41,7 +40,7 @@ module _ (𝓜 : Machine) (s : Tables) (h : Change) (F : Facts 𝓜 s) (K : Keep
   read-kept j n (Reference to o e w) q f = tt
   read-kept j n (Release o e w) q f = tt
   read-kept j n (Read r d o e) q f =
-      let same = waiting-name j r d (Read r d o e) q (and-i (eq-eqb r r refl) (eq-eqb d d refl)) in
+      let same = waiting-name j r d (Read r d o e) q (eq-both r d) in
       ahead-kept 𝓜 s h F K n (namedBy (cell 𝓜 (next 𝓜 s h) r d)) o e (named-place 𝓜 (next 𝓜 s h) F′ r d)
       (ap (ahead 𝓜 s n) same ∙ f)
   read-kept j n (Answer r d v) q f = tt
@@ -54,25 +53,11 @@ module _ (𝓜 : Machine) (s : Tables) (h : Change) (F : Facts 𝓜 s) (K : Keep
   answer-kept j (Release o e w) q f = tt
   answer-kept j (Read r d o e) q f = tt
   answer-kept j (Answer r d v) q f =
-      let same = waiting-name j r d (Answer r d v) q (and-i (eq-eqb r r refl) (eq-eqb d d refl)) in
+      let same = waiting-name j r d (Answer r d v) q (eq-both r d) in
       ends-kept 𝓜 s h F K (namedBy (cell 𝓜 (next 𝓜 s h) r d)) v (named-place 𝓜 (next 𝓜 s h) F′ r d)
       (subst (λ (p : Place). EndsIn 𝓜 s p v) (sym same) f)
   answer-kept j (Ask a d o e) q f = tt
   answer-kept j (Supply a d w) q f = tt
-
-  -- a statement on every message, where it stays for those that stay and holds of the new one
-  each-message : (T T′ : Message → Type 0) → ((j : ℕ) → T (message s j)) → ((j : ℕ) (m : Message) → message s j ≡ m → T m → T′ m) → (h .m ≡ h .m₀) ⊎ T′ (h .m) → (j : ℕ) → T′ (message (next 𝓜 s h) j)
-  each-message T T′ old kept new j = go (ℕ-discrete j (h .i)) new
-    where
-      P : Placed 𝓜 s h
-      P = K .placed
-
-      go : Dec (j ≡ h .i) → (h .m ≡ h .m₀) ⊎ T′ (h .m) → T′ (message (next 𝓜 s h) j)
-      go (yes q) (inr f) = subst T′ (sym (ap (message (next 𝓜 s h)) q ∙ message-here 𝓜 s h (F .sized) P)) f
-      go (yes q) (inl e) =
-          subst T′ (sym (ap (message (next 𝓜 s h)) q ∙ message-here 𝓜 s h (F .sized) P ∙ e ∙ sym (P .old-message)))
-          (kept (h .i) (message s (h .i)) refl (old (h .i)))
-      go (no q) f = subst T′ (sym (message-there 𝓜 s h (F .sized) P j q)) (kept j (message s j) refl (old j))
 
   -- ---- what is known
   status-kept : (p : Place) (st : Status) → LivePlace 𝓜 (next 𝓜 s h) p → StatusFact 𝓜 s p st → StatusFact 𝓜 (next 𝓜 s h) p st
@@ -92,28 +77,17 @@ module _ (𝓜 : Machine) (s : Tables) (h : Change) (F : Facts 𝓜 s) (K : Keep
   module _ (C : Carries 𝓜 s h) where
     pub reads-kept : Reads 𝓜 s → Reads 𝓜 (next 𝓜 s h)
     reads-kept old =
-        each-message (λ m. (n : ℕ) × ReadAhead 𝓜 s n m) (λ m. (n : ℕ) × ReadAhead 𝓜 (next 𝓜 s h) n m) old
-        (λ j m q f. (f .0, read-kept j (f .0) m q (f .1)))
+        messages-all 𝓜 s h (F .sized) (K .placed) (λ m. (n : ℕ) × ReadAhead 𝓜 (next 𝓜 s h) n m)
+        (λ j. (old j .0, read-kept j (old j .0) (message s j) refl (old j .1)))
         (C .read-ok)
 
     pub answers-kept : ((j : ℕ) → AnswerFact 𝓜 s (message s j)) → (j : ℕ) → AnswerFact 𝓜 (next 𝓜 s h) (message (next 𝓜 s h) j)
-    answers-kept old = each-message (AnswerFact 𝓜 s) (AnswerFact 𝓜 (next 𝓜 s h)) old answer-kept (C .answer-ok)
+    answers-kept old =
+        messages-all 𝓜 s h (F .sized) (K .placed) (AnswerFact 𝓜 (next 𝓜 s h)) (λ j. answer-kept j (message s j) refl (old j)) (C .answer-ok)
 
     pub known-after : ((v d : ℕ) → KnownFact 𝓜 s (cell 𝓜 s v d)) → (v d : ℕ) → KnownFact 𝓜 (next 𝓜 s h) (cell 𝓜 (next 𝓜 s h) v d)
-    known-after old v d = go (spot (h .w) (h .c) v d) (C .known-ok)
-      where
-        P : Placed 𝓜 s h
-        P = K .placed
-
-        here : h .w ≡ v → h .c ≡ d → cell 𝓜 (next 𝓜 s h) v d ≡ h .k
-        here a b =
-            ap (λ (u : ℕ). cell 𝓜 (next 𝓜 s h) u d) (sym a) ∙ ap (cell 𝓜 (next 𝓜 s h) (h .w)) (sym b) ∙ cell-here 𝓜 s h (F .sized) P
-
-        go : ((h .w ≡ v) × (h .c ≡ d)) ⊎ (h .w ≡ v → h .c ≡ d → ⊥) → (KnownFact 𝓜 s (h .k₀) → KnownFact 𝓜 s (h .k)) ⊎ KnownFact 𝓜 (next 𝓜 s h) (h .k) → KnownFact 𝓜 (next 𝓜 s h) (cell 𝓜 (next 𝓜 s h) v d)
-        go (inl q) (inr f) = subst (KnownFact 𝓜 (next 𝓜 s h)) (sym (here (q .0) (q .1))) f
-        go (inl q) (inl f) =
-            subst (KnownFact 𝓜 (next 𝓜 s h)) (sym (here (q .0) (q .1)))
-            (known-kept v d (h .k) (here (q .0) (q .1)) (f (subst (KnownFact 𝓜 s) (P .old-cell) (old (h .w) (h .c)))))
-        go (inr t) f =
-            let there = cell-there 𝓜 s h (F .sized) P v d t in
-            subst (KnownFact 𝓜 (next 𝓜 s h)) (sym there) (known-kept v d (cell 𝓜 s v d) there (old v d))
+    known-after old v d =
+        stored-each (cell-stored 𝓜 s h (F .sized) (K .placed)) (λ v d x y. KnownFact 𝓜 s x → cell 𝓜 (next 𝓜 s h) v d ≡ y → KnownFact 𝓜 (next 𝓜 s h) y)
+        (λ f q. ⊎-elim (λ g. known-kept (h .w) (h .c) (h .k) q (g f)) (λ g. g) (C .known-ok))
+        (λ v d t f q. known-kept v d (cell 𝓜 s v d) q f)
+        v d (old v d) refl

@@ -1,8 +1,7 @@
 -- A change of an entry and a slot leaves every cell and every end as it was. Assumes nothing.
 use Prim.Native.Nat.{ℕ, _<_, _≤_}
-use mathlib.Core.Path.{_≡_, refl, sym, ap, ap₂, _∙_}
+use mathlib.Core.Path.{_≡_, refl, sym, ap, _∙_}
 use mathlib.Core.Bool.{Bool, true, false, _&&_, not}
-use mathlib.Core.Logic.{_⊎_, inl, inr}
 use lib.Dec.{ltb}
 use Rattle.tables.specs.declared.Kind.{Kind}
 use Rattle.tables.specs.declared.Kind.the-variants.{Free, Var, Val, Ref, Ex}
@@ -16,7 +15,8 @@ use Rattle.rules.specs.Sound.{varValOrSafe}
 use Rattle.rules.specs.Machines.{Laws}
 use Rattle.rules.specs.Facts.{CellFact, EntryFact, Facts}
 use Rattle.rules.specs.Change.{Change, next, Placed}
-use Rattle.rules.proofs.Next.{spot, cell-here, cell-there, entry-here, entry-there}
+use Rattle.rules.proofs.Stored.{stored-each}
+use Rattle.rules.proofs.Next.{cell-stored, entry-stored}
 use Rattle.rules.proofs.Moves.{entryMove}
 
 module _ (𝓜 : Machine) (L : Laws 𝓜) (s : Tables) (F : Facts 𝓜 s) (o e : ℕ) (x₀ x : Holding) (i : ℕ) (m₀ m : Message) (o-in : o < 𝓜 .workers) (e-in : e < 𝓜 .entries) (i-in : i < 𝓜 .slots) (old-entry : entry 𝓜 s o e ≡ x₀) (old-message : message s i ≡ m₀) where
@@ -29,12 +29,7 @@ module _ (𝓜 : Machine) (L : Laws 𝓜) (s : Tables) (F : Facts 𝓜 s) (o e :
 
   pub cells-same : (v d : ℕ) → cell 𝓜 (next 𝓜 s (entryMove 𝓜 s o e x₀ x i m₀ m)) v d ≡ cell 𝓜 s v d
   unfolding h
-  cells-same v d = go (spot 0 0 v d)
-    where
-      go : ((0 ≡ v) × (0 ≡ d)) ⊎ (0 ≡ v → 0 ≡ d → ⊥) → cell 𝓜 (next 𝓜 s h) v d ≡ cell 𝓜 s v d
-      go (inl q) =
-          ap₂ (cell 𝓜 (next 𝓜 s h)) (sym (q .0)) (sym (q .1)) ∙ cell-here 𝓜 s h (F .sized) P ∙ ap₂ (cell 𝓜 s) (q .0) (q .1)
-      go (inr f) = cell-there 𝓜 s h (F .sized) P v d f
+  cells-same = stored-each (cell-stored 𝓜 s h (F .sized) P) (λ v d y z. z ≡ y) refl (λ v d f. refl)
 
   end-same : (v d : ℕ) → endKind 𝓜 (next 𝓜 s (entryMove 𝓜 s o e x₀ x i m₀ m)) v d ≡ endKind 𝓜 s v d
   unfolding endKind end
@@ -49,7 +44,7 @@ module _ (𝓜 : Machine) (L : Laws 𝓜) (s : Tables) (F : Facts 𝓜 s) (o e :
   good-same (Val n) f t = refl
   good-same (Ref d) f t = t
   good-same (Ex o′ e′ n st a) f t =
-      ap (λ (y : Holding). ltb o′ o && not (isTainted y)) (entry-there 𝓜 s h (F .sized) P o′ e′ (λ p q. f .1 (sym p))) ∙ t
+      ap (λ (y : Holding). ltb o′ o && not (isTainted y)) (entry-stored 𝓜 s h (F .sized) P .there o′ e′ (λ p q. f .1 (sym p))) ∙ t
 
   -- what an entry must have, from what holds before
   pub entry-next : (d n : ℕ) (t : Bool) → n ≤ 𝓜 .ceiling → 1 ≤ n → isFree (cell 𝓜 s o d) ≡ false → (t ≡ false → varValOrSafe 𝓜 s o (endKind 𝓜 s o d) ≡ true) → EntryFact 𝓜 (next 𝓜 s (entryMove 𝓜 s o e x₀ x i m₀ m)) o (Live d n t)
@@ -64,9 +59,4 @@ module _ (𝓜 : Machine) (L : Laws 𝓜) (s : Tables) (F : Facts 𝓜 s) (o e :
   -- where the entry stays as it is, every entry does
   pub entries-same : x ≡ x₀ → (v f : ℕ) → entry 𝓜 (next 𝓜 s (entryMove 𝓜 s o e x₀ x i m₀ m)) v f ≡ entry 𝓜 s v f
   unfolding h
-  entries-same q v f = go (spot o e v f)
-    where
-      go : ((o ≡ v) × (e ≡ f)) ⊎ (o ≡ v → e ≡ f → ⊥) → entry 𝓜 (next 𝓜 s h) v f ≡ entry 𝓜 s v f
-      go (inl p) =
-          ap₂ (entry 𝓜 (next 𝓜 s h)) (sym (p .0)) (sym (p .1)) ∙ entry-here 𝓜 s h (F .sized) P ∙ q ∙ sym old-entry ∙ ap₂ (entry 𝓜 s) (p .0) (p .1)
-      go (inr t) = entry-there 𝓜 s h (F .sized) P v f t
+  entries-same q = stored-each (entry-stored 𝓜 s h (F .sized) P) (λ v f y z. z ≡ y) q (λ v f t. refl)

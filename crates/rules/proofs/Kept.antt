@@ -1,16 +1,17 @@
 -- The facts of a sound state stay under a change that keeps what it must. Assumes nothing.
 use Prim.Native.Nat.{ℕ}
-use native.Mathlib.Decide.{ℕ-discrete}
 use native.Mathlib.Omega.{arith}
-use mathlib.Core.Path.{_≡_, refl, sym, ap, subst, _∙_}
+use mathlib.Core.Path.{_≡_, refl, sym, ap, _∙_}
 use mathlib.Core.Bool.{Bool, true, false, _&&_, _||_, not, cond}
 use mathlib.Core.Logic.{_⊎_, inl, inr}
 use lib.Dec.{eqb, ltb}
 use borrow.Author.Tests.{eq-eqb}
 use Rattle.numbers.specs.Below.{bit}
-use Rattle.numbers.specs.Tests.{absurd-bool, and-l, and-r, and-i, or-l, or-r}
+use Rattle.numbers.specs.Tests.{absurd-bool, or-l, or-r}
 use Rattle.numbers.specs.ListLaws.{total-cong}
 use Rattle.tables.specs.declared.Slot.{Slot}
+use Rattle.tables.specs.declared.Status.{Status}
+use Rattle.tables.specs.declared.Place.the-variants.{Nowhere}
 use Rattle.tables.specs.declared.Kind.{Kind}
 use Rattle.tables.specs.declared.Kind.the-variants.{Free, Var, Val, Ref, Ex}
 use Rattle.tables.specs.declared.Holding.{Holding}
@@ -18,16 +19,17 @@ use Rattle.tables.specs.declared.Holding.the-variants.{Unused, Live}
 use Rattle.tables.specs.declared.Message.{Message}
 use Rattle.tables.specs.declared.Message.the-variants.{Empty, Reference, Release, Read, Answer, Ask, Supply}
 use Rattle.tables.specs.Machine.{Machine, Tables}
-use Rattle.tables.specs.Parts.{onEx, readingOf, isFree, isVar, isVal, isEx, isReading, isAsking, exNames, endFrom, isLive, isTainted, entryNames, entryWeight, goesTo}
+use Rattle.tables.specs.Parts.{onEx, readingOf, isFree, isVar, isVal, isEx, isReading, isAsking, exNames, namedBy, endFrom, isLive, isTainted, entryNames, entryWeight, goesTo}
 use Rattle.tables.specs.Look.{cell, entry, end, endKind, safe, exported, busy, booked, message}
 use Rattle.rules.specs.Sound.{readsFor, asksFor, varValOrSafe, readsOf, asksOf, cellHolds, messageHolds, held}
 use Rattle.rules.specs.Deliver.{cellOf}
 use Rattle.rules.specs.Facts.{CellFact, EntryFact, MessageFact, Facts}
-use Rattle.rules.proofs.Named.{ex-not-var, the-ex}
+use Rattle.rules.proofs.Named.{eq-both, ex-not-var, the-ex, the-ex-of, ExOf}
 use Rattle.rules.proofs.Busy.{exported-by, referred-by, busy-exported, busy-referred, busy-reading, busy-asking}
 use Rattle.rules.proofs.Derived.{ex-live, asking-cell}
-use Rattle.rules.specs.Change.{Change, next, seen, Placed, VarBecomes, stays, bound, Keeps}
-use Rattle.rules.proofs.Next.{spot, cell-here, cell-there, entry-here, entry-there, message-here, message-there, next-sized, at-cell, at-entry, cells-total, slots-total, free-count}
+use Rattle.rules.specs.Change.{Change, next, seen, VarBecomes, stays, bound, Keeps}
+use Rattle.rules.proofs.Stored.{Stored, stored-each, stored-all, stored-number, stored-once}
+use Rattle.rules.proofs.Next.{cell-stored, entry-stored, messages-all, next-sized, cells-total, slots-total, free-count}
 
 -- ---- cells that look the same to others
 -- what an EX's name says is the same of cells that look the same
@@ -41,20 +43,21 @@ seen-name d f j k q = sym (unseen j) ∙ ap (onEx d (λ o e n st a. f o e)) q �
     unseen (Ref c) = refl
     unseen (Ex o e n st a) = refl
 
--- a cell that looks like a REF, or like an EX, is one
-pub seen-ref : (j : Kind) (d : ℕ) → seen j ≡ Ref d → j ≡ Ref d
-seen-ref Free d q = q
-seen-ref Var d q = q
-seen-ref (Val n) d q = q
-seen-ref (Ref e) d q = q
-seen-ref (Ex o e n st a) d q = let y : _≡_ {A = ℕ} 0 1 = cc in absurd (omega arith)
+-- a cell that looks like something other than an EX is it
+pub seen-plain : (j k : Kind) → isEx k ≡ false → seen j ≡ k → j ≡ k
+seen-plain Free k t q = q
+seen-plain Var k t q = q
+seen-plain (Val n) k t q = q
+seen-plain (Ref d) k t q = q
+seen-plain (Ex o e n st a) k t q = absurd-bool (sym (ap isEx q)) t
 
-pub seen-val : (j : Kind) (n : ℕ) → seen j ≡ Val n → j ≡ Val n
-seen-val Free n q = q
-seen-val Var n q = q
-seen-val (Val m) n q = q
-seen-val (Ref e) n q = q
-seen-val (Ex o e m st a) n q = let y : _≡_ {A = ℕ} 0 1 = cc in absurd (omega arith)
+-- a VAR or a VAL is its own end, and names no entry
+pub var-val-end : (k : Kind) (d : ℕ) → (isVar k || isVal k) ≡ true → (isFree k ≡ false) × (endFrom k d ≡ d) × (namedBy k ≡ Nowhere)
+var-val-end Free d t = absurd-bool t refl
+var-val-end Var d t = (refl, refl, refl)
+var-val-end (Val n) d t = (refl, refl, refl)
+var-val-end (Ref y) d t = absurd-bool t refl
+var-val-end (Ex o e n st a) d t = absurd-bool t refl
 
 -- ---- the end of a cell that holds a REF, and of one that holds something else
 module _ (𝓜 : Machine) (t : Tables) where
@@ -71,17 +74,16 @@ module _ (𝓜 : Machine) (s : Tables) (h : Change) (F : Facts 𝓜 s) (K : Keep
   s′ : Tables
   s′ = next 𝓜 s h
 
+  C : Stored (cell 𝓜 s) (cell 𝓜 (next 𝓜 s h)) (h .w) (h .c) (h .k₀) (h .k)
+  C = cell-stored 𝓜 s h (F .sized) (K .placed)
+
+  E : Stored (entry 𝓜 s) (entry 𝓜 (next 𝓜 s h)) (h .o) (h .e) (h .x₀) (h .x)
+  E = entry-stored 𝓜 s h (F .sized) (K .placed)
+
   -- ---- a busy cell that is no VAR looks the same
   pub seen-kept : (v d : ℕ) → busy 𝓜 s v d ≡ true → isVar (cell 𝓜 s v d) ≡ false → seen (cell 𝓜 (next 𝓜 s h) v d) ≡ seen (cell 𝓜 s v d)
-  seen-kept v d b nv = go (spot (h .w) (h .c) v d)
-    where
-      go : ((h .w ≡ v) × (h .c ≡ d)) ⊎ (h .w ≡ v → h .c ≡ d → ⊥) → seen (cell 𝓜 (next 𝓜 s h) v d) ≡ seen (cell 𝓜 s v d)
-      go (inl q) =
-          let P = K .placed in
-          let b′ : busy 𝓜 s (h .w) (h .c) ≡ true = rw (q .0, q .1) b in
-          let nv′ : isVar (h .k₀) ≡ false = rw (← P .old-cell, q .0, q .1) nv in
-          rw (← q .0, ← q .1, cell-here 𝓜 s h (F .sized) P, P .old-cell) (K .busy-kept b′ nv′)
-      go (inr f) = ap seen (cell-there 𝓜 s h (F .sized) (K .placed) v d f)
+  seen-kept =
+      stored-each C (λ v d x y. busy 𝓜 s v d ≡ true → isVar x ≡ false → seen y ≡ seen x) (K .busy-kept) (λ v d f b nv. refl)
 
   asking-seen : (v d : ℕ) → isAsking (cell 𝓜 s v d) ≡ true → seen (cell 𝓜 s′ v d) ≡ seen (cell 𝓜 s v d)
   unfolding s′
@@ -90,9 +92,18 @@ module _ (𝓜 : Machine) (s : Tables) (h : Change) (F : Facts 𝓜 s) (K : Keep
   pub reading-seen : (v d : ℕ) → isReading (cell 𝓜 s v d) ≡ true → seen (cell 𝓜 (next 𝓜 s h) v d) ≡ seen (cell 𝓜 s v d)
   reading-seen v d t = seen-kept v d (busy-reading 𝓜 s v d t) (ex-not-var (λ o e n st a. readingOf st) (cell 𝓜 s v d) t)
 
+  pub exported-seen : (v d : ℕ) → exported 𝓜 s v d ≡ true → isVar (cell 𝓜 s v d) ≡ false → seen (cell 𝓜 (next 𝓜 s h) v d) ≡ seen (cell 𝓜 s v d)
+  exported-seen v d x nv = seen-kept v d (busy-exported 𝓜 s v d x) nv
+
   -- an EX that a REF names looks the same
   pub referred-seen : (v d y : ℕ) → cell 𝓜 s v d ≡ Ref y → isEx (cell 𝓜 s v y) ≡ true → seen (cell 𝓜 (next 𝓜 s h) v y) ≡ seen (cell 𝓜 s v y)
   referred-seen v d y q t = seen-kept v y (busy-referred 𝓜 s v y (referred-by 𝓜 s v y d q)) (ex-not-var (λ o e n st a. true) (cell 𝓜 s v y) t)
+
+  -- an EX that looks the same names the same entry
+  pub ex-after : (v d o e n : ℕ) (st : Status) (a : Bool) → cell 𝓜 s v d ≡ Ex o e n st a → seen (cell 𝓜 (next 𝓜 s h) v d) ≡ seen (cell 𝓜 s v d) → ExOf o e (cell 𝓜 (next 𝓜 s h) v d)
+  ex-after v d o e n st a q same =
+      the-ex-of o e (cell 𝓜 (next 𝓜 s h) v d)
+      (seen-name false (λ owner entr. eqb owner o && eqb entr e) (cell 𝓜 (next 𝓜 s h) v d) (cell 𝓜 s v d) same ∙ ap (exNames o e) q ∙ eq-both o e)
 
   -- ---- weights
   -- a message that stays holds what it held
@@ -104,7 +115,7 @@ module _ (𝓜 : Machine) (s : Tables) (h : Change) (F : Facts 𝓜 s) (K : Keep
   holds-same a b j (Answer r d n) q = refl
   holds-same a b j (Ask r d o e) q = refl
   holds-same a b j (Supply r d n) q =
-      let t = asking-cell 𝓜 s F j r d (ap (asksFor r d) q ∙ and-i (eq-eqb r r refl) (eq-eqb d d refl)) in
+      let t = asking-cell 𝓜 s F j r d (ap (asksFor r d) q ∙ eq-both r d) in
       ap (λ (z : Bool). cond z n 0) (seen-name false (λ owner entr. eqb owner a && eqb entr b) (cell 𝓜 s′ r d) (cell 𝓜 s r d) (asking-seen r d t))
 
   holds-new : (a b : ℕ) → messageHolds 𝓜 s′ a b (h .m) ≡ messageHolds 𝓜 s a b (h .m)
@@ -122,7 +133,7 @@ module _ (𝓜 : Machine) (s : Tables) (h : Change) (F : Facts 𝓜 s) (K : Keep
       let P = K .placed in
       omega (
         arith,
-        at-entry 𝓜 s h z P entryWeight a b,
+        stored-number E entryWeight a b,
         F .weighed a b,
         cells-total 𝓜 s h z P (cellHolds 𝓜 s a b),
         slots-total 𝓜 s h z P (messageHolds 𝓜 s′ a b),
@@ -145,60 +156,14 @@ module _ (𝓜 : Machine) (s : Tables) (h : Change) (F : Facts 𝓜 s) (K : Keep
 
   cells′ : (v d : ℕ) → CellFact 𝓜 s′ v (cell 𝓜 s′ v d)
   unfolding s′
-  cells′ v d = go (spot (h .w) (h .c) v d) (K .cell-ok)
-    where
-      P : Placed 𝓜 s h
-      P = K .placed
-
-      go : ((h .w ≡ v) × (h .c ≡ d)) ⊎ (h .w ≡ v → h .c ≡ d → ⊥) → (h .k ≡ h .k₀) ⊎ CellFact 𝓜 s′ (h .w) (h .k) → CellFact 𝓜 s′ v (cell 𝓜 s′ v d)
-      go (inl q) (inr f) = rw (← q .0, ← q .1, cell-here 𝓜 s h (F .sized) P) f
-      go (inl q) (inl e) =
-          let same : cell 𝓜 s (h .w) (h .c) ≡ cell 𝓜 s′ (h .w) (h .c) = P .old-cell ∙ sym e ∙ sym (cell-here 𝓜 s h (F .sized) P) in
-          rw (← q .0, ← q .1)
-          (subst (λ (y : Kind). CellFact 𝓜 s′ (h .w) y) same (cell-kept (h .w) (h .c) (cell 𝓜 s (h .w) (h .c)) refl (F .cells (h .w) (h .c))))
-      go (inr f) c = rw (cell-there 𝓜 s h (F .sized) P v d f) (cell-kept v d (cell 𝓜 s v d) refl (F .cells v d))
+  cells′ = stored-all C (CellFact 𝓜 s′) (λ v d. cell-kept v d (cell 𝓜 s v d) refl (F .cells v d)) (K .cell-ok)
 
   -- ---- entries
   -- an entry that is live before and after keeps its cell and its taint
   pub live-kept : (a b : ℕ) → isLive (entry 𝓜 s a b) ≡ true → isLive (entry 𝓜 (next 𝓜 s h) a b) ≡ true → (cellOf (entry 𝓜 (next 𝓜 s h) a b) ≡ cellOf (entry 𝓜 s a b)) × (isTainted (entry 𝓜 (next 𝓜 s h) a b) ≡ isTainted (entry 𝓜 s a b))
-  live-kept a b = go (spot (h .o) (h .e) a b)
-    where
-      P : Placed 𝓜 s h
-      P = K .placed
-
-      go : ((h .o ≡ a) × (h .e ≡ b)) ⊎ (h .o ≡ a → h .e ≡ b → ⊥) → isLive (entry 𝓜 s a b) ≡ true → isLive (entry 𝓜 (next 𝓜 s h) a b) ≡ true → (cellOf (entry 𝓜 (next 𝓜 s h) a b) ≡ cellOf (entry 𝓜 s a b)) × (isTainted (entry 𝓜 (next 𝓜 s h) a b) ≡ isTainted (entry 𝓜 s a b))
-      go (inl q) l l′ =
-          let here : entry 𝓜 (next 𝓜 s h) a b ≡ h .x = rw (← q .0, ← q .1) (entry-here 𝓜 s h (F .sized) P) in
-          let old : entry 𝓜 s a b ≡ h .x₀ = rw (← q .0, ← q .1) (P .old-entry) in
-          let r = K .entry-kept (sym (ap isLive old) ∙ l) (sym (ap isLive here) ∙ l′) in
-          (ap cellOf here ∙ r .0 ∙ sym (ap cellOf old), ap isTainted here ∙ r .1 ∙ sym (ap isTainted old))
-      go (inr f) l l′ =
-          let there = entry-there 𝓜 s h (F .sized) P a b f in
-          (ap cellOf there, ap isTainted there)
-
-  -- an EX that stays what others see of it stays safe
-  safe-kept : (v y : ℕ) → seen (cell 𝓜 s′ v y) ≡ seen (cell 𝓜 s v y) → safe 𝓜 s v (cell 𝓜 s v y) ≡ true → safe 𝓜 s′ v (cell 𝓜 s′ v y) ≡ true
-  unfolding safe s′
-  safe-kept v y q t = go (cell 𝓜 s v y) (cell 𝓜 s′ v y) refl refl q t
-    where
-      go : (j k : Kind) → cell 𝓜 s v y ≡ j → cell 𝓜 s′ v y ≡ k → seen k ≡ seen j → safe 𝓜 s v j ≡ true → safe 𝓜 s′ v k ≡ true
-      go Free k a b q t = absurd-bool t refl
-      go Var k a b q t = absurd-bool t refl
-      go (Val n) k a b q t = absurd-bool t refl
-      go (Ref d) k a b q t = absurd-bool t refl
-      go (Ex o e n st w) Free a b q t = let z : _≡_ {A = ℕ} 0 1 = cc in absurd (omega arith)
-      go (Ex o e n st w) Var a b q t = let z : _≡_ {A = ℕ} 0 1 = cc in absurd (omega arith)
-      go (Ex o e n st w) (Val m) a b q t = let z : _≡_ {A = ℕ} 0 1 = cc in absurd (omega arith)
-      go (Ex o e n st w) (Ref d) a b q t = let z : _≡_ {A = ℕ} 0 1 = cc in absurd (omega arith)
-      go (Ex o e n st w) (Ex o′ e′ n′ st′ w′) a b q t =
-          let same-owner : o′ ≡ o = cc in
-          let same-entry : e′ ≡ e = cc in
-          let here : cell 𝓜 s′ v y ≡ Ex o e n′ st′ w′ = rw (← same-owner, ← same-entry) b in
-          let l = ex-live 𝓜 s (F .weighed) (F .cells) v y o e n st w a in
-          let l′ = ex-live 𝓜 s′ weighed′ cells′ v y o e n′ st′ w′ here in
-          rw (same-owner, same-entry)
-          (and-i (and-l (ltb o v) (not (isTainted (entry 𝓜 s o e))) t)
-          (ap not (live-kept o e l l′ .1) ∙ and-r (ltb o v) (not (isTainted (entry 𝓜 s o e))) t))
+  live-kept =
+      stored-each E (λ a b x y. isLive x ≡ true → isLive y ≡ true → (cellOf y ≡ cellOf x) × (isTainted y ≡ isTainted x)) (K .entry-kept)
+      (λ a b f l l′. (refl, refl))
 
   safe-is-ex : (t : Tables) (v : ℕ) (k : Kind) → safe 𝓜 t v k ≡ true → isEx k ≡ true
   unfolding safe
@@ -208,6 +173,19 @@ module _ (𝓜 : Machine) (s : Tables) (h : Change) (F : Facts 𝓜 s) (K : Keep
   safe-is-ex t v (Ref d) q = absurd-bool q refl
   safe-is-ex t v (Ex o e n st a) q = refl
 
+  -- an EX that stays what others see of it stays safe
+  safe-kept : (v y : ℕ) → seen (cell 𝓜 s′ v y) ≡ seen (cell 𝓜 s v y) → safe 𝓜 s v (cell 𝓜 s v y) ≡ true → safe 𝓜 s′ v (cell 𝓜 s′ v y) ≡ true
+  unfolding safe s′
+  safe-kept v y q t =
+      let x = the-ex (cell 𝓜 s v y) (safe-is-ex s v (cell 𝓜 s v y) t) in
+      let o = x .owner in
+      let e = x .entry in
+      let x′ = ex-after v y o e (x .weight) (x .status) (x .asking) (x .is) q in
+      let l = ex-live 𝓜 s (F .weighed) (F .cells) v y o e (x .weight) (x .status) (x .asking) (x .is) in
+      let l′ = ex-live 𝓜 s′ weighed′ cells′ v y o e (x′ .weight) (x′ .status) (x′ .asking) (x′ .is) in
+      let t′ : (ltb o v && not (isTainted (entry 𝓜 s o e))) ≡ true = sym (ap (safe 𝓜 s v) (x .is)) ∙ t in
+      ap (safe 𝓜 s′ v) (x′ .is) ∙ ap (λ (z : Bool). ltb o v && not z) (live-kept o e l l′ .1) ∙ t′
+
   -- a VAR, a VAL or a safe EX, as a test of one kind
   good-var : (t : Tables) (v : ℕ) (k : Kind) → (isVar k || isVal k) ≡ true → varValOrSafe 𝓜 t v k ≡ true
   good-var t v k q = or-l (safe 𝓜 t v k) q
@@ -215,63 +193,51 @@ module _ (𝓜 : Machine) (s : Tables) (h : Change) (F : Facts 𝓜 s) (K : Keep
   good-safe : (t : Tables) (v : ℕ) (k : Kind) → safe 𝓜 t v k ≡ true → varValOrSafe 𝓜 t v k ≡ true
   good-safe t v k q = or-r (isVar k || isVal k) q
 
-  -- an exported VAR, after the change: itself, its value, or a REF to a safe EX
+  -- an exported VAR, after the change: itself, its value, or a REF to a safe EX that stays
+  pub data VarAfter (v : ℕ) (k : Kind) : Type 0 where
+    var-or-val : (isVar k || isVal k) ≡ true → VarAfter v k
+    ref-to-safe : (y : ℕ) → k ≡ Ref y → cell 𝓜 (next 𝓜 s h) v y ≡ cell 𝓜 s v y → safe 𝓜 s v (cell 𝓜 s v y) ≡ true → VarAfter v k
+
+  pub var-after : (v d : ℕ) → exported 𝓜 s v d ≡ true → cell 𝓜 s v d ≡ Var → VarAfter v (cell 𝓜 (next 𝓜 s h) v d)
+  var-after =
+      stored-each C (λ v d x y. exported 𝓜 s v d ≡ true → x ≡ Var → VarAfter v y)
+      (λ x q. becomes q (K .var-kept x (ap isVar q)))
+      (λ v d f x q. var-or-val (ap (λ (k : Kind). isVar k || isVal k) q))
+    where
+      becomes : h .k₀ ≡ Var → VarBecomes 𝓜 s (h .w) (h .k) → VarAfter (h .w) (h .k)
+      becomes q (stays t) = var-or-val t
+      becomes q (bound y e t) =
+          let apart : h .w ≡ h .w → h .c ≡ y → ⊥ = λ a b. absurd-bool (safe-is-ex s (h .w) (cell 𝓜 s (h .w) y) t) (ap isEx (ap (cell 𝓜 s (h .w)) (sym b) ∙ C .was ∙ q)) in
+          ref-to-safe y e (C .there (h .w) y apart) t
+
   var-good : (v d : ℕ) → exported 𝓜 s v d ≡ true → cell 𝓜 s v d ≡ Var → (isFree (cell 𝓜 s′ v d) ≡ false) × (varValOrSafe 𝓜 s′ v (endKind 𝓜 s′ v d) ≡ true)
   unfolding s′
-  var-good v d x q = go (spot (h .w) (h .c) v d)
+  var-good v d x q = go (cell 𝓜 s′ v d) refl (var-after v d x q)
     where
-      P : Placed 𝓜 s h
-      P = K .placed
-
-      plain : (k : Kind) → (isVar k || isVal k) ≡ true → (isFree k ≡ false) × (endFrom k d ≡ d)
-      plain Free t = absurd-bool t refl
-      plain Var t = (refl, refl)
-      plain (Val n) t = (refl, refl)
-      plain (Ref y) t = absurd-bool t refl
-      plain (Ex o e n st a) t = absurd-bool t refl
-
-      self : (k : Kind) → cell 𝓜 s′ v d ≡ k → (isVar k || isVal k) ≡ true → (isFree (cell 𝓜 s′ v d) ≡ false) × (varValOrSafe 𝓜 s′ v (endKind 𝓜 s′ v d) ≡ true)
-      self k e t =
-          let r = plain k t in
-          (ap isFree e ∙ r .0, ap (varValOrSafe 𝓜 s′ v) (end-self 𝓜 s′ v d k e (r .1)) ∙ good-var s′ v k t)
-
-      becomes : h .w ≡ v → h .c ≡ d → VarBecomes 𝓜 s (h .w) (h .k) → (isFree (cell 𝓜 s′ v d) ≡ false) × (varValOrSafe 𝓜 s′ v (endKind 𝓜 s′ v d) ≡ true)
-      becomes a b (stays t) = self (h .k) (rw (← a, ← b) (cell-here 𝓜 s h (F .sized) P)) t
-      becomes a b (bound y e t) =
-          let here : cell 𝓜 s′ v d ≡ Ref y = rw (← a, ← b) (cell-here 𝓜 s h (F .sized) P ∙ e) in
-          let t′ : safe 𝓜 s v (cell 𝓜 s v y) ≡ true = rw a at t in
-          let apart : h .w ≡ v → h .c ≡ y → ⊥ = λ a′ b′. let at-y : cell 𝓜 s v y ≡ Var = rw (← b′, b) q in absurd-bool (safe-is-ex s v (cell 𝓜 s v y) t′) (ap isEx at-y) in
-          let there = cell-there 𝓜 s h (F .sized) P v y apart in (
-            ap isFree here,
-            ap (varValOrSafe 𝓜 s′ v) (end-ref 𝓜 s′ v d y here) ∙ good-safe s′ v (cell 𝓜 s′ v y) (safe-kept v y (ap seen there) t′),
-          )
-
-      go : ((h .w ≡ v) × (h .c ≡ d)) ⊎ (h .w ≡ v → h .c ≡ d → ⊥) → (isFree (cell 𝓜 s′ v d) ≡ false) × (varValOrSafe 𝓜 s′ v (endKind 𝓜 s′ v d) ≡ true)
-      go (inl r) =
-          let x′ : exported 𝓜 s (h .w) (h .c) ≡ true = rw (r .0, r .1) x in
-          let old : cell 𝓜 s (h .w) (h .c) ≡ Var = rw (r .0, r .1) q in
-          let v₀ : isVar (h .k₀) ≡ true = ap isVar (sym (P .old-cell) ∙ old) in
-          becomes (r .0) (r .1) (K .var-kept x′ v₀)
-      go (inr f) = self Var (cell-there 𝓜 s h (F .sized) P v d f ∙ q) refl
+      go : (k : Kind) → cell 𝓜 s′ v d ≡ k → VarAfter v k → (isFree (cell 𝓜 s′ v d) ≡ false) × (varValOrSafe 𝓜 s′ v (endKind 𝓜 s′ v d) ≡ true)
+      go k i (var-or-val t) =
+          let r = var-val-end k d t in
+          (ap isFree i ∙ r .0, ap (varValOrSafe 𝓜 s′ v) (end-self 𝓜 s′ v d k i (r .1)) ∙ good-var s′ v k t)
+      go k i (ref-to-safe y e same t) = (
+        ap isFree (i ∙ e),
+        ap (varValOrSafe 𝓜 s′ v) (end-ref 𝓜 s′ v d y (i ∙ e)) ∙ good-safe s′ v (cell 𝓜 s′ v y) (safe-kept v y (ap seen same) t),
+      )
 
   -- an exported cell is not freed, and an end that was a VAR, a VAL or a safe EX is one
   good-kept : (v d : ℕ) → exported 𝓜 s v d ≡ true → isFree (cell 𝓜 s v d) ≡ false → (isFree (cell 𝓜 s′ v d) ≡ false) × (varValOrSafe 𝓜 s v (endKind 𝓜 s v d) ≡ true → varValOrSafe 𝓜 s′ v (endKind 𝓜 s′ v d) ≡ true)
   unfolding s′
   good-kept v d x nf = go (cell 𝓜 s v d) refl nf
     where
-      looks : isVar (cell 𝓜 s v d) ≡ false → seen (cell 𝓜 s′ v d) ≡ seen (cell 𝓜 s v d)
-      looks nv = seen-kept v d (busy-exported 𝓜 s v d x) nv
-
       go : (k : Kind) → cell 𝓜 s v d ≡ k → isFree k ≡ false → (isFree (cell 𝓜 s′ v d) ≡ false) × (varValOrSafe 𝓜 s v (endKind 𝓜 s v d) ≡ true → varValOrSafe 𝓜 s′ v (endKind 𝓜 s′ v d) ≡ true)
       go Free q t = absurd-bool refl t
       go Var q t =
           let r = var-good v d x q in
           (r .0, λ g. r .1)
       go (Val n) q t =
-          let here : cell 𝓜 s′ v d ≡ Val n = seen-val (cell 𝓜 s′ v d) n (looks (ap isVar q) ∙ ap seen q) in
+          let here : cell 𝓜 s′ v d ≡ Val n = seen-plain (cell 𝓜 s′ v d) (Val n) refl (exported-seen v d x (ap isVar q) ∙ ap seen q) in
           (ap isFree here, λ g. ap (varValOrSafe 𝓜 s′ v) (end-self 𝓜 s′ v d (Val n) here refl))
       go (Ref y) q t =
-          let here : cell 𝓜 s′ v d ≡ Ref y = seen-ref (cell 𝓜 s′ v d) y (looks (ap isVar q) ∙ ap seen q) in
+          let here : cell 𝓜 s′ v d ≡ Ref y = seen-plain (cell 𝓜 s′ v d) (Ref y) refl (exported-seen v d x (ap isVar q) ∙ ap seen q) in
           let f : CellFact 𝓜 s v (Ref y) = rw q at (F .cells v d) in (
             ap isFree here,
             (λ g. ap (varValOrSafe 𝓜 s′ v) (end-ref 𝓜 s′ v d y here) ∙ good-safe s′ v (cell 𝓜 s′ v y) (safe-kept v y (referred-seen v d y q (f .1)) (only-safe (cell 𝓜 s v y) (f .1) (sym (ap (varValOrSafe 𝓜 s v) (end-ref 𝓜 s v d y q)) ∙ g)))),
@@ -284,10 +250,9 @@ module _ (𝓜 : Machine) (s : Tables) (h : Change) (F : Facts 𝓜 s) (K : Keep
           only-safe (Ref z) a b = absurd-bool a refl
           only-safe (Ex o e n st w) a b = b
       go (Ex o e n st a) q t =
-          let same = looks (ap isVar q) in
-          let ex : isEx (cell 𝓜 s′ v d) ≡ true = seen-name false (λ owner entr. true) (cell 𝓜 s′ v d) (cell 𝓜 s v d) same ∙ ap isEx q in
-          let r = the-ex (cell 𝓜 s′ v d) ex in
-          let k′ = Ex (r .owner) (r .entry) (r .weight) (r .status) (r .asking) in
+          let same = exported-seen v d x (ap isVar q) in
+          let r = ex-after v d o e n st a q same in
+          let k′ = Ex o e (r .weight) (r .status) (r .asking) in
           let was : varValOrSafe 𝓜 s v (endKind 𝓜 s v d) ≡ true → safe 𝓜 s v (cell 𝓜 s v d) ≡ true = λ g. ap (safe 𝓜 s v) q ∙ sym (ap (varValOrSafe 𝓜 s v) (end-self 𝓜 s v d (Ex o e n st a) q refl)) ∙ g in
           let is-safe : safe 𝓜 s v (cell 𝓜 s v d) ≡ true → safe 𝓜 s′ v k′ ≡ true = λ g. sym (ap (safe 𝓜 s′ v) (r .is)) ∙ safe-kept v d same g in (
             ap isFree (r .is),
@@ -304,18 +269,7 @@ module _ (𝓜 : Machine) (s : Tables) (h : Change) (F : Facts 𝓜 s) (K : Keep
 
   entries′ : (v f : ℕ) → EntryFact 𝓜 s′ v (entry 𝓜 s′ v f)
   unfolding s′
-  entries′ v f = go (spot (h .o) (h .e) v f) (K .entry-ok)
-    where
-      P : Placed 𝓜 s h
-      P = K .placed
-
-      go : ((h .o ≡ v) × (h .e ≡ f)) ⊎ (h .o ≡ v → h .e ≡ f → ⊥) → (h .x ≡ h .x₀) ⊎ EntryFact 𝓜 s′ (h .o) (h .x) → EntryFact 𝓜 s′ v (entry 𝓜 s′ v f)
-      go (inl q) (inr g) = rw (← q .0, ← q .1, entry-here 𝓜 s h (F .sized) P) g
-      go (inl q) (inl e) =
-          let same : entry 𝓜 s (h .o) (h .e) ≡ entry 𝓜 s′ (h .o) (h .e) = P .old-entry ∙ sym e ∙ sym (entry-here 𝓜 s h (F .sized) P) in
-          rw (← q .0, ← q .1)
-          (subst (λ (y : Holding). EntryFact 𝓜 s′ (h .o) y) same (entry-kept′ (h .o) (h .e) (entry 𝓜 s (h .o) (h .e)) refl (F .entries (h .o) (h .e))))
-      go (inr t) g = rw (entry-there 𝓜 s h (F .sized) P v f t) (entry-kept′ v f (entry 𝓜 s v f) refl (F .entries v f))
+  entries′ = stored-all E (EntryFact 𝓜 s′) (λ v f. entry-kept′ v f (entry 𝓜 s v f) refl (F .entries v f)) (K .entry-ok)
 
   -- ---- messages
   message-kept : (j : ℕ) (m : Message) → message s j ≡ m → MessageFact 𝓜 s m → MessageFact 𝓜 s′ m
@@ -326,68 +280,14 @@ module _ (𝓜 : Machine) (s : Tables) (h : Change) (F : Facts 𝓜 s) (K : Keep
   message-kept j (Read r d o e) q f = tt
   message-kept j (Answer r d n) q f = tt
   message-kept j (Ask r d o e) q f =
-      let t = asking-cell 𝓜 s F j r d (ap (asksFor r d) q ∙ and-i (eq-eqb r r refl) (eq-eqb d d refl)) in
+      let t = asking-cell 𝓜 s F j r d (ap (asksFor r d) q ∙ eq-both r d) in
       seen-name false (λ owner entr. eqb owner o && eqb entr e) (cell 𝓜 s′ r d) (cell 𝓜 s r d) (asking-seen r d t) ∙ f
   message-kept j (Supply r d n) q f = tt
 
   messages′ : (j : ℕ) → MessageFact 𝓜 s′ (message s′ j)
   unfolding s′
-  messages′ j = go (ℕ-discrete j (h .i)) (K .message-ok)
-    where
-      P : Placed 𝓜 s h
-      P = K .placed
-
-      go : Dec (j ≡ h .i) → (h .m ≡ h .m₀) ⊎ MessageFact 𝓜 s′ (h .m) → MessageFact 𝓜 s′ (message s′ j)
-      go (yes q) (inr f) = rw (q, message-here 𝓜 s h (F .sized) P) f
-      go (yes q) (inl e) =
-          let same : message s (h .i) ≡ message s′ (h .i) = P .old-message ∙ sym e ∙ sym (message-here 𝓜 s h (F .sized) P) in
-          rw q
-          (subst (λ (y : Message). MessageFact 𝓜 s′ y) same (message-kept (h .i) (message s (h .i)) refl (F .messages (h .i))))
-      go (no q) f = rw (message-there 𝓜 s h (F .sized) P j q) (message-kept j (message s j) refl (F .messages j))
-
-  -- ---- any two
-  ex-once′ : (v c d a b : ℕ) → exNames a b (cell 𝓜 s′ v c) ≡ true → exNames a b (cell 𝓜 s′ v d) ≡ true → c ≡ d
-  unfolding s′
-  ex-once′ v c d a b t u = go (spot (h .w) (h .c) v c) (spot (h .w) (h .c) v d)
-    where
-      P : Placed 𝓜 s h
-      P = K .placed
-
-      -- the changed cell, and another one of its worker
-      new : (y : ℕ) → h .w ≡ v → exNames a b (cell 𝓜 s′ v (h .c)) ≡ true → (h .w ≡ v → h .c ≡ y → ⊥) → exNames a b (cell 𝓜 s′ v y) ≡ true → y ≡ h .c
-      new y q t f u =
-          let here : cell 𝓜 s′ v (h .c) ≡ h .k = rw (← q) (cell-here 𝓜 s h (F .sized) P) in
-          let there : cell 𝓜 s′ v y ≡ cell 𝓜 s (h .w) y = cell-there 𝓜 s h (F .sized) P v y f ∙ ap (λ (u : ℕ). cell 𝓜 s u y) (sym q) in
-          K .ex-new y a b (sym (ap (exNames a b) here) ∙ t) (sym (ap (exNames a b) there) ∙ u)
-
-      go : ((h .w ≡ v) × (h .c ≡ c)) ⊎ (h .w ≡ v → h .c ≡ c → ⊥) → ((h .w ≡ v) × (h .c ≡ d)) ⊎ (h .w ≡ v → h .c ≡ d → ⊥) → c ≡ d
-      go (inl q) (inl r) = sym (q .1) ∙ r .1
-      go (inl q) (inr f) = sym (q .1) ∙ sym (new d (q .0) (ap (λ (y : ℕ). exNames a b (cell 𝓜 s′ v y)) (q .1) ∙ t) f u)
-      go (inr f) (inl r) = new c (r .0) (ap (λ (y : ℕ). exNames a b (cell 𝓜 s′ v y)) (r .1) ∙ u) f t ∙ r .1
-      go (inr f) (inr g) =
-          F .ex-once v c d a b (ap (exNames a b) (sym (cell-there 𝓜 s h (F .sized) P v c f)) ∙ t)
-          (ap (exNames a b) (sym (cell-there 𝓜 s h (F .sized) P v d g)) ∙ u)
-
-  entry-once′ : (v e f d : ℕ) → entryNames d (entry 𝓜 s′ v e) ≡ true → entryNames d (entry 𝓜 s′ v f) ≡ true → e ≡ f
-  unfolding s′
-  entry-once′ v e f d t u = go (spot (h .o) (h .e) v e) (spot (h .o) (h .e) v f)
-    where
-      P : Placed 𝓜 s h
-      P = K .placed
-
-      new : (y : ℕ) → h .o ≡ v → entryNames d (entry 𝓜 s′ v (h .e)) ≡ true → (h .o ≡ v → h .e ≡ y → ⊥) → entryNames d (entry 𝓜 s′ v y) ≡ true → y ≡ h .e
-      new y q t g u =
-          let here : entry 𝓜 s′ v (h .e) ≡ h .x = rw (← q) (entry-here 𝓜 s h (F .sized) P) in
-          let there : entry 𝓜 s′ v y ≡ entry 𝓜 s (h .o) y = entry-there 𝓜 s h (F .sized) P v y g ∙ ap (λ (u : ℕ). entry 𝓜 s u y) (sym q) in
-          K .entry-new y d (sym (ap (entryNames d) here) ∙ t) (sym (ap (entryNames d) there) ∙ u)
-
-      go : ((h .o ≡ v) × (h .e ≡ e)) ⊎ (h .o ≡ v → h .e ≡ e → ⊥) → ((h .o ≡ v) × (h .e ≡ f)) ⊎ (h .o ≡ v → h .e ≡ f → ⊥) → e ≡ f
-      go (inl q) (inl r) = sym (q .1) ∙ r .1
-      go (inl q) (inr g) = sym (q .1) ∙ sym (new f (q .0) (ap (λ (y : ℕ). entryNames d (entry 𝓜 s′ v y)) (q .1) ∙ t) g u)
-      go (inr g) (inl r) = new e (r .0) (ap (λ (y : ℕ). entryNames d (entry 𝓜 s′ v y)) (r .1) ∙ u) g t ∙ r .1
-      go (inr g) (inr g′) =
-          F .entry-once v e f d (ap (entryNames d) (sym (entry-there 𝓜 s h (F .sized) P v e g)) ∙ t)
-          (ap (entryNames d) (sym (entry-there 𝓜 s h (F .sized) P v f g′)) ∙ u)
+  messages′ =
+      messages-all 𝓜 s h (F .sized) (K .placed) (MessageFact 𝓜 s′) (λ j. message-kept j (message s j) refl (F .messages j)) (K .message-ok)
 
   pub facts-kept : Facts 𝓜 (next 𝓜 s h)
   unfolding s′ readsOf asksOf booked
@@ -400,10 +300,10 @@ module _ (𝓜 : Machine) (s : Tables) (h : Change) (F : Facts 𝓜 s) (K : Keep
         cells = cells′;
         entries = entries′;
         messages = messages′;
-        ex-once = ex-once′;
-        entry-once = entry-once′;
-        reads-one = λ v d. omega (arith, slots-total 𝓜 s h z P (λ y. bit (readsFor v d y)), at-cell 𝓜 s h z P (λ y. bit (isReading y)) v d, F .reads-one v d, K .reads v d);
-        asks-one = λ v d. omega (arith, slots-total 𝓜 s h z P (λ y. bit (asksFor v d y)), at-cell 𝓜 s h z P (λ y. bit (isAsking y)) v d, F .asks-one v d, K .asks v d);
+        ex-once = λ v c d a b. stored-once C (exNames a b) (λ v c d. F .ex-once v c d a b) (λ d. K .ex-new d a b) v c d;
+        entry-once = λ v e f d. stored-once E (entryNames d) (λ v e f. F .entry-once v e f d) (λ f. K .entry-new f d) v e f;
+        reads-one = λ v d. omega (arith, slots-total 𝓜 s h z P (λ y. bit (readsFor v d y)), stored-number C (λ y. bit (isReading y)) v d, F .reads-one v d, K .reads v d);
+        asks-one = λ v d. omega (arith, slots-total 𝓜 s h z P (λ y. bit (asksFor v d y)), stored-number C (λ y. bit (isAsking y)) v d, F .asks-one v d, K .asks v d);
         weighed = weighed′;
         room = λ v. omega (arith, slots-total 𝓜 s h z P (λ y. bit (goesTo v y)), free-count 𝓜 s h z P v, F .room v, K .room v);
       }

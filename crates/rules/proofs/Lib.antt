@@ -10,6 +10,7 @@ pub mod Derived
 pub mod FromTest
 pub mod ToTest
 -- A change that keeps what it must keeps the facts, the chains, what is known and the rank.
+pub mod Stored
 pub mod Next
 pub mod Kept
 pub mod Onward

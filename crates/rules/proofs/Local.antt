@@ -27,7 +27,7 @@ use Rattle.rules.proofs.Inside.{cell-inside}
 use Rattle.rules.proofs.Named.{the-ex, not-on-ex}
 use Rattle.rules.proofs.Busy.{idle-parts}
 use Rattle.rules.specs.Change.{next, Placed, VarBecomes, stays, bound, Invariant}
-use Rattle.rules.proofs.Next.{cell-there}
+use Rattle.rules.proofs.Next.{cell-stored}
 use Rattle.rules.proofs.Moves.{cellMove, CellMoves}
 use Rattle.rules.proofs.Steps.{after-checked, not-false, var-is, zero-cond, free-cell, empty-slot, has-room, room-sent, room-same, free-not-busy, stays-cell, stays-cell-message}
 
@@ -140,7 +140,7 @@ module _ (𝓜 : Machine) (L : Laws 𝓜) (s : Tables) (I : Invariant 𝓜 s) wh
       ref-ex q ex =
           let inside = cell-inside 𝓜 s w c (ap isFree q) in
           let placed : Placed 𝓜 s (cellMove 𝓜 s w c Var (Ref (end 𝓜 s w x)) 0 (message s 0) (message s 0)) = record { w-in = inside .0; c-in = inside .1; o-in = L .workers-some; e-in = L .entries-some; i-in = L .slots-some; old-cell = q; old-entry = refl; old-message = refl } in
-          ap isEx (cell-there 𝓜 s (cellMove 𝓜 s w c Var (Ref (end 𝓜 s w x)) 0 (message s 0) (message s 0)) (I .facts .sized) placed w (end 𝓜 s w x) (λ a b. absurd-bool ex (ap isEx (ap (cell 𝓜 s w) (sym b) ∙ q))))
+          ap isEx (cell-stored 𝓜 s (cellMove 𝓜 s w c Var (Ref (end 𝓜 s w x)) 0 (message s 0) (message s 0)) (I .facts .sized) placed .there w (end 𝓜 s w x) (λ a b. absurd-bool ex (ap isEx (ap (cell 𝓜 s w) (sym b) ∙ q))))
           ∙ ex
 
   -- ---- a cell that is not busy is freed, its weight, if it has one, going into the slot i

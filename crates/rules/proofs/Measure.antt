@@ -28,7 +28,8 @@ use Rattle.rules.specs.Facts.{Facts, EndsIn}
 use Rattle.rules.proofs.Inside.{cell-inside}
 use Rattle.rules.proofs.Derived.{LivePlace}
 use Rattle.rules.specs.Change.{Change, next, Keeps, Carries, Ranked, Invariant}
-use Rattle.rules.proofs.Next.{spot, cell-here, cell-there, entry-here, slots-total}
+use Rattle.rules.proofs.Stored.{stored-each}
+use Rattle.rules.proofs.Next.{cell-stored, entry-stored, slots-total}
 use Rattle.rules.proofs.Onward.{ends-kept}
 use Rattle.rules.proofs.Rank.{was-or-new}
 use Rattle.rules.proofs.Stays.{invariant-kept, rank-kept}
@@ -120,8 +121,7 @@ module _ (𝓜 : Machine) (L : Laws 𝓜) (s : Tables) (I : Invariant 𝓜 s) (r
       was : (a b : ℕ) → isLive (entry 𝓜 (next 𝓜 s h) a b) ≡ true → (isLive (entry 𝓜 s a b) ≡ true) ⊎ ((h .o ≡ a) × (h .e ≡ b) × (isLive (h .x₀) ≡ false)) → isLive (entry 𝓜 s a b) ≡ true
       was a b t (inl l) = l
       was a b t (inr q) =
-          let here = entry-here 𝓜 s h (I .facts .sized) (K .placed) in
-          let same = ap (λ (u : ℕ). entry 𝓜 (next 𝓜 s h) u b) (sym (q .0)) ∙ ap (entry 𝓜 (next 𝓜 s h) (h .o)) (sym (q .1)) ∙ here in
+          let same = ap₂ (entry 𝓜 (next 𝓜 s h)) (sym (q .0)) (sym (q .1)) ∙ entry-stored 𝓜 s h (I .facts .sized) (K .placed) .here in
           absurd-bool (old (sym (ap isLive same) ∙ t)) (q .2)
 
       le : (a b c : Bool) → (a ≡ true → b ≡ true) → bit (a && c) ≤ bit (b && c)
@@ -141,18 +141,10 @@ module _ (𝓜 : Machine) (L : Laws 𝓜) (s : Tables) (I : Invariant 𝓜 s) (r
               slots-total 𝓜 s h (I .facts .sized) (K .placed) (spends 𝓜 (next 𝓜 s h) r),
               total-mono (λ (x : Slot). spends 𝓜 (next 𝓜 s h) r (x .message)) (λ (x : Slot). spends 𝓜 s r (x .message)) (s .slots) (record { message = Empty }) (λ k l. le (message s k)),
             );
-        on = λ w c. moves w c (spot (h .w) (h .c) w c);
+        on = stored-each (cell-stored 𝓜 s h (I .facts .sized) (K .placed)) (λ w c x y. KindOn x y) on (λ w c f. kind-same (cell 𝓜 s w c));
         ends = ends-kept 𝓜 s h (I .facts) K;
       }
     where
-      moves : (w c : ℕ) → ((h .w ≡ w) × (h .c ≡ c)) ⊎ (h .w ≡ w → h .c ≡ c → ⊥) → KindOn (cell 𝓜 s w c) (cell 𝓜 (next 𝓜 s h) w c)
-      moves w c (inl q) =
-          let was : cell 𝓜 s w c ≡ h .k₀ = ap₂ (cell 𝓜 s) (sym (q .0)) (sym (q .1)) ∙ K .placed .old-cell in
-          let now : cell 𝓜 (next 𝓜 s h) w c ≡ h .k = ap₂ (cell 𝓜 (next 𝓜 s h)) (sym (q .0)) (sym (q .1)) ∙ cell-here 𝓜 s h (I .facts .sized) (K .placed) in
-          subst (λ (y : Kind). KindOn y (cell 𝓜 (next 𝓜 s h) w c)) (sym was) (subst (KindOn (h .k₀)) (sym now) on)
-      moves w c (inr f) =
-          subst (KindOn (cell 𝓜 s w c)) (sym (cell-there 𝓜 s h (I .facts .sized) (K .placed) w c f)) (kind-same (cell 𝓜 s w c))
-
       le : (m : Message) → spends 𝓜 (next 𝓜 s h) r m ≤ spends 𝓜 s r m
       le Empty = omega arith
       le (Reference to o e w) = omega arith

@@ -3,11 +3,9 @@
 use Prim.Native.Nat.{ℕ, zero, suc}
 use native.Mathlib.Omega.{arith}
 use mathlib.Core.Path.{_≡_, refl, sym, ap, subst, _∙_}
-use mathlib.Core.Bool.{Bool, true, false, _||_}
-use mathlib.Core.Logic.{_⊎_, inl, inr}
+use mathlib.Core.Bool.{Bool, true, false}
 use borrow.Author.Tests.{eq-eqb}
 use Rattle.numbers.specs.Tests.{absurd-bool}
-use Rattle.tables.specs.declared.Status.the-variants.{Idle}
 use Rattle.tables.specs.declared.Kind.{Kind}
 use Rattle.tables.specs.declared.Kind.the-variants.{Free, Var, Val, Ref, Ex}
 use Rattle.tables.specs.declared.Holding.{Holding}
@@ -15,18 +13,17 @@ use Rattle.tables.specs.declared.Holding.the-variants.{Unused, Live}
 use Rattle.tables.specs.declared.Place.{Place}
 use Rattle.tables.specs.declared.Place.the-variants.{Nowhere, At}
 use Rattle.tables.specs.Machine.{Machine, Tables}
-use Rattle.tables.specs.Parts.{isFree, isVar, isVal, isEx, namedBy, isLive, entryNames}
+use Rattle.tables.specs.Parts.{isFree, isVar, isEx, namedBy, isLive, entryNames}
 use Rattle.tables.specs.Look.{cell, entry, endKind, safe, exported}
 use Rattle.rules.specs.Sound.{follow, through}
 use Rattle.rules.specs.Refusals.{entryEnd}
 use Rattle.rules.specs.Deliver.{cellOf}
 use Rattle.rules.specs.Facts.{CellFact, Facts, ahead, EndsIn}
 use Rattle.rules.proofs.Named.{the-live, IsLive}
-use Rattle.rules.proofs.Busy.{exported-by, busy-exported}
+use Rattle.rules.proofs.Busy.{exported-by}
 use Rattle.rules.proofs.Derived.{live-fact, LivePlace, follow-place, ahead-place}
-use Rattle.rules.specs.Change.{Change, next, seen, Placed, VarBecomes, stays, bound, Keeps}
-use Rattle.rules.proofs.Next.{spot, cell-here, cell-there}
-use Rattle.rules.proofs.Kept.{seen-name, seen-ref, seen-val, seen-kept, referred-seen, live-kept, end-ref, end-self, facts-kept}
+use Rattle.rules.specs.Change.{Change, next, seen, Keeps}
+use Rattle.rules.proofs.Kept.{seen-name, seen-plain, var-val-end, exported-seen, referred-seen, ex-after, VarAfter, var-or-val, ref-to-safe, var-after, live-kept, end-ref, end-self, facts-kept}
 
 pub nowhere-at : {X : Type 0} {o e : ℕ} → _≡_ {A = Place} Nowhere (At o e) → X
 nowhere-at q = let z : _≡_ {A = ℕ} 0 1 = cc in absurd (omega arith)
@@ -55,9 +52,6 @@ module _ (𝓜 : Machine) (s : Tables) (h : Change) (F : Facts 𝓜 s) (K : Keep
   F′ : Facts 𝓜 (next 𝓜 s h)
   F′ = facts-kept 𝓜 s h F K
 
-  looks : (v d : ℕ) → exported 𝓜 s v d ≡ true → isVar (cell 𝓜 s v d) ≡ false → seen (cell 𝓜 (next 𝓜 s h) v d) ≡ seen (cell 𝓜 s v d)
-  looks v d x nv = seen-kept 𝓜 s h F K v d (busy-exported 𝓜 s v d x) nv
-
   -- ---- the end of an exported cell, before and after
   pub data EndKept (v d : ℕ) : Type 0 where
     -- the same value, the same reference, or a VAR that is still one, or has its value
@@ -65,46 +59,18 @@ module _ (𝓜 : Machine) (s : Tables) (h : Change) (F : Facts 𝓜 s) (K : Keep
     -- a VAR that is bound to a safe EX
     newly-bound : (y : ℕ) → cell 𝓜 s v d ≡ Var → endKind 𝓜 (next 𝓜 s h) v d ≡ cell 𝓜 s v y → safe 𝓜 s v (cell 𝓜 s v y) ≡ true → EndKept v d
 
-  safe-not-var : (v : ℕ) (k : Kind) → safe 𝓜 s v k ≡ true → k ≡ Var → ⊥
-  unfolding safe
-  safe-not-var v k t q = absurd-bool (sym (ap (safe 𝓜 s v) q) ∙ t) refl
-
   var-end : (v d : ℕ) → exported 𝓜 s v d ≡ true → cell 𝓜 s v d ≡ Var → EndKept v d
-  var-end v d x q = go (spot (h .w) (h .c) v d)
+  var-end v d x q = go (cell 𝓜 (next 𝓜 s h) v d) refl (var-after 𝓜 s h F K v d x q)
     where
-      P : Placed 𝓜 s h
-      P = K .placed
-
       was : endKind 𝓜 s v d ≡ Var
       was = end-self 𝓜 s v d Var q refl
 
-      plain : (k : Kind) → cell 𝓜 (next 𝓜 s h) v d ≡ k → (isVar k || isVal k) ≡ true → EndKept v d
-      plain Free i t = absurd-bool t refl
-      plain Var i t =
-          as-before (ap namedBy (end-self 𝓜 (next 𝓜 s h) v d Var i refl ∙ sym was))
+      go : (k : Kind) → cell 𝓜 (next 𝓜 s h) v d ≡ k → VarAfter 𝓜 s h F K v k → EndKept v d
+      go k i (var-or-val t) =
+          let r = var-val-end k d t in
+          as-before (ap namedBy (end-self 𝓜 (next 𝓜 s h) v d k i (r .1)) ∙ r .2 ∙ sym (ap namedBy was))
           (λ n p. let z : _≡_ {A = ℕ} 0 1 = cc was in absurd (omega arith))
-      plain (Val m) i t =
-          as-before (ap namedBy (end-self 𝓜 (next 𝓜 s h) v d (Val m) i refl) ∙ sym (ap namedBy was))
-          (λ n p. let z : _≡_ {A = ℕ} 0 1 = cc was in absurd (omega arith))
-      plain (Ref y) i t = absurd-bool t refl
-      plain (Ex o e n st a) i t = absurd-bool t refl
-
-      becomes : h .w ≡ v → h .c ≡ d → VarBecomes 𝓜 s (h .w) (h .k) → EndKept v d
-      becomes a b (stays t) =
-          let here : cell 𝓜 (next 𝓜 s h) v d ≡ h .k = ap (λ (y : ℕ). cell 𝓜 (next 𝓜 s h) y d) (sym a) ∙ ap (λ (y : ℕ). cell 𝓜 (next 𝓜 s h) (h .w) y) (sym b) ∙ cell-here 𝓜 s h (F .sized) P in
-          plain (h .k) here t
-      becomes a b (bound y e t) =
-          let here : cell 𝓜 (next 𝓜 s h) v d ≡ Ref y = ap (λ (u : ℕ). cell 𝓜 (next 𝓜 s h) u d) (sym a) ∙ ap (λ (u : ℕ). cell 𝓜 (next 𝓜 s h) (h .w) u) (sym b) ∙ cell-here 𝓜 s h (F .sized) P ∙ e in
-          let t′ : safe 𝓜 s v (cell 𝓜 s v y) ≡ true = subst (λ (u : ℕ). safe 𝓜 s u (cell 𝓜 s u y) ≡ true) a t in
-          let apart : h .w ≡ v → h .c ≡ y → ⊥ = λ a′ b′. safe-not-var v (cell 𝓜 s v y) t′ (ap (cell 𝓜 s v) (sym b′ ∙ b) ∙ q) in
-          newly-bound y q (end-ref 𝓜 (next 𝓜 s h) v d y here ∙ cell-there 𝓜 s h (F .sized) P v y apart) t′
-
-      go : ((h .w ≡ v) × (h .c ≡ d)) ⊎ (h .w ≡ v → h .c ≡ d → ⊥) → EndKept v d
-      go (inl r) =
-          let x′ : exported 𝓜 s (h .w) (h .c) ≡ true = rw (r .0, r .1) x in
-          let old : cell 𝓜 s (h .w) (h .c) ≡ Var = rw (r .0, r .1) q in
-          becomes (r .0) (r .1) (K .var-kept x′ (ap isVar (sym (P .old-cell) ∙ old)))
-      go (inr f) = plain Var (cell-there 𝓜 s h (F .sized) P v d f ∙ q) refl
+      go k i (ref-to-safe y e same t) = newly-bound y q (end-ref 𝓜 (next 𝓜 s h) v d y (i ∙ e) ∙ same) t
 
   pub end-kept : (v d : ℕ) → exported 𝓜 s v d ≡ true → isFree (cell 𝓜 s v d) ≡ false → EndKept v d
   end-kept v d x nf = go (cell 𝓜 s v d) refl nf
@@ -113,12 +79,12 @@ module _ (𝓜 : Machine) (s : Tables) (h : Change) (F : Facts 𝓜 s) (K : Keep
       go Free q t = absurd-bool refl t
       go Var q t = var-end v d x q
       go (Val n) q t =
-          let here : cell 𝓜 (next 𝓜 s h) v d ≡ Val n = seen-val (cell 𝓜 (next 𝓜 s h) v d) n (looks v d x (ap isVar q) ∙ ap seen q) in
+          let here : cell 𝓜 (next 𝓜 s h) v d ≡ Val n = seen-plain (cell 𝓜 (next 𝓜 s h) v d) (Val n) refl (exported-seen 𝓜 s h F K v d x (ap isVar q) ∙ ap seen q) in
           let now = end-self 𝓜 (next 𝓜 s h) v d (Val n) here refl in
           let was = end-self 𝓜 s v d (Val n) q refl in
           as-before (ap namedBy (now ∙ sym was)) (λ m p. now ∙ sym was ∙ p)
       go (Ref y) q t =
-          let here : cell 𝓜 (next 𝓜 s h) v d ≡ Ref y = seen-ref (cell 𝓜 (next 𝓜 s h) v d) y (looks v d x (ap isVar q) ∙ ap seen q) in
+          let here : cell 𝓜 (next 𝓜 s h) v d ≡ Ref y = seen-plain (cell 𝓜 (next 𝓜 s h) v d) (Ref y) refl (exported-seen 𝓜 s h F K v d x (ap isVar q) ∙ ap seen q) in
           let f : CellFact 𝓜 s v (Ref y) = subst (λ (k : Kind). CellFact 𝓜 s v k) q (F .cells v d) in
           let now = end-ref 𝓜 (next 𝓜 s h) v d y here in
           let was = end-ref 𝓜 s v d y q in
@@ -126,23 +92,10 @@ module _ (𝓜 : Machine) (s : Tables) (h : Change) (F : Facts 𝓜 s) (K : Keep
           (ap namedBy now ∙ seen-name Nowhere (λ owner entr. At owner entr) (cell 𝓜 (next 𝓜 s h) v y) (cell 𝓜 s v y) (referred-seen 𝓜 s h F K v d y q (f .1)) ∙ sym (ap namedBy was))
           (λ n p. absurd-bool (f .1) (ap isEx (sym was ∙ p)))
       go (Ex o e n st a) q t =
-          let same = looks v d x (ap isVar q) in
+          let x′ = ex-after 𝓜 s h F K v d o e n st a q (exported-seen 𝓜 s h F K v d x (ap isVar q)) in
           let was = end-self 𝓜 s v d (Ex o e n st a) q refl in
-          as-before (ex-end (cell 𝓜 (next 𝓜 s h) v d) refl (same ∙ ap seen q) ∙ sym (ap namedBy was))
-          (λ m p. let z : _≡_ {A = ℕ} 0 1 = cc in absurd (omega arith))
-        where
-          ex-end : (k : Kind) → cell 𝓜 (next 𝓜 s h) v d ≡ k → seen k ≡ Ex o e 0 Idle false → namedBy (endKind 𝓜 (next 𝓜 s h) v d) ≡ At o e
-          ex-end Free i p = let z : _≡_ {A = ℕ} 0 1 = cc in absurd (omega arith)
-          ex-end Var i p = let z : _≡_ {A = ℕ} 0 1 = cc in absurd (omega arith)
-          ex-end (Val m) i p = let z : _≡_ {A = ℕ} 0 1 = cc in absurd (omega arith)
-          ex-end (Ref y) i p = let z : _≡_ {A = ℕ} 0 1 = cc in absurd (omega arith)
-          ex-end (Ex o′ e′ n′ st′ a′) i p =
-              let same-owner : o′ ≡ o = cc in
-              let same-entry : e′ ≡ e = cc in
-              ap namedBy (end-self 𝓜 (next 𝓜 s h) v d (Ex o′ e′ n′ st′ a′) i refl) ∙ ap₂-at same-owner same-entry
-            where
-              ap₂-at : o′ ≡ o → e′ ≡ e → At o′ e′ ≡ At o e
-              ap₂-at p q = rw (p, q)
+          let now = end-self 𝓜 (next 𝓜 s h) v d (Ex o e (x′ .weight) (x′ .status) (x′ .asking)) (x′ .is) refl in
+          as-before (ap namedBy now ∙ sym (ap namedBy was)) (λ m p. let z : _≡_ {A = ℕ} 0 1 = cc in absurd (omega arith))
 
   -- ---- steps
   -- a live entry's exported cell is not free

@@ -1,9 +1,9 @@
 -- No loops: the rank falls with each step before a change, and after it, a new entry getting a rank of its own. Assumes nothing.
 use Prim.Native.Nat.{ℕ, _<_, _≤_}
 use native.Mathlib.Omega.{arith}
-use mathlib.Core.Path.{_≡_, refl, sym, ap, subst, _∙_}
+use mathlib.Core.Path.{_≡_, refl, sym, ap, ap₂, subst, _∙_}
 use mathlib.Core.Bool.{true, false, not}
-use mathlib.Core.Logic.{_⊎_, inl, inr}
+use mathlib.Core.Logic.{_⊎_, inl, inr, ⊎-elim}
 use lib.Dec.{ltb}
 use borrow.Author.Tests.{ltb-true, not-true}
 use Rattle.numbers.specs.Tests.{absurd-bool, or-else, and-l, and-r}
@@ -17,8 +17,9 @@ use Rattle.rules.specs.Sound.{varValOrSafe, follow}
 use Rattle.rules.specs.Facts.{CellFact, Facts}
 use Rattle.rules.proofs.Named.{the-live, IsLive}
 use Rattle.rules.proofs.Derived.{named-place, follow-place}
-use Rattle.rules.specs.Change.{Change, next, Placed, Keeps, Ranked}
-use Rattle.rules.proofs.Next.{spot, entry-here, entry-there}
+use Rattle.rules.specs.Change.{Change, next, Keeps, Ranked}
+use Rattle.rules.proofs.Stored.{Stored, stored-each}
+use Rattle.rules.proofs.Next.{entry-stored}
 use Rattle.rules.proofs.Kept.{live-kept, facts-kept}
 use Rattle.rules.proofs.Onward.{follow-live, follow-from, live-exported, after-live, end-kept, EndKept, as-before, newly-bound}
 
@@ -61,18 +62,15 @@ module _ (𝓜 : Machine) (s : Tables) (h : Change) (F : Facts 𝓜 s) (K : Keep
   F′ : Facts 𝓜 (next 𝓜 s h)
   F′ = facts-kept 𝓜 s h F K
 
+  E : Stored (entry 𝓜 s) (entry 𝓜 (next 𝓜 s h)) (h .o) (h .e) (h .x₀) (h .x)
+  E = entry-stored 𝓜 s h (F .sized) (K .placed)
+
   -- an entry that is live after the change was live before, or is the one that the change made
   pub was-or-new : (a b : ℕ) → isLive (entry 𝓜 (next 𝓜 s h) a b) ≡ true → (isLive (entry 𝓜 s a b) ≡ true) ⊎ ((h .o ≡ a) × (h .e ≡ b) × (isLive (h .x₀) ≡ false))
-  was-or-new a b t = go (spot (h .o) (h .e) a b) (or-else (isLive (h .x₀)))
-    where
-      P : Placed 𝓜 s h
-      P = K .placed
-
-      go : ((h .o ≡ a) × (h .e ≡ b)) ⊎ (h .o ≡ a → h .e ≡ b → ⊥) → (isLive (h .x₀) ≡ true) ⊎ (isLive (h .x₀) ≡ false) → (isLive (entry 𝓜 s a b) ≡ true) ⊎ ((h .o ≡ a) × (h .e ≡ b) × (isLive (h .x₀) ≡ false))
-      go (inl q) (inl l) =
-          inl (ap isLive (ap (λ (u : ℕ). entry 𝓜 s u b) (sym (q .0)) ∙ ap (entry 𝓜 s (h .o)) (sym (q .1)) ∙ P .old-entry) ∙ l)
-      go (inl q) (inr l) = inr (q .0, q .1, l)
-      go (inr f) l = inl (sym (ap isLive (entry-there 𝓜 s h (F .sized) P a b f)) ∙ t)
+  was-or-new =
+      stored-each E (λ a b x y. isLive y ≡ true → (isLive x ≡ true) ⊎ ((h .o ≡ a) × (h .e ≡ b) × (isLive (h .x₀) ≡ false)))
+      (λ t. ⊎-elim inl (λ l. inr (refl, refl, l)) (or-else (isLive (h .x₀))))
+      (λ a b f t. inl t)
 
   -- a step after the change from an entry that was there before
   old-step : (a b o e : ℕ) → isLive (entry 𝓜 s a b) ≡ true → follow 𝓜 (next 𝓜 s h) (At a b) ≡ At o e → (isLive (entry 𝓜 s o e) ≡ true) × (r o e < r a b)
@@ -104,25 +102,14 @@ module _ (𝓜 : Machine) (s : Tables) (h : Change) (F : Facts 𝓜 s) (K : Keep
         falls = λ a b o e q. falls a b o e q (was-or-new a b (ap isLive (follow-from 𝓜 (next 𝓜 s h) a b o e q .is)));
       }
     where
-      P : Placed 𝓜 s h
-      P = K .placed
-
-      here : entry 𝓜 (next 𝓜 s h) (h .o) (h .e) ≡ h .x
-      here = entry-here 𝓜 s h (F .sized) P
+      new-here : (a b : ℕ) → h .o ≡ a → h .e ≡ b → entry 𝓜 (next 𝓜 s h) a b ≡ h .x
+      new-here a b p q = ap₂ (entry 𝓜 (next 𝓜 s h)) (sym p) (sym q) ∙ E .here
 
       low : (a b : ℕ) → isLive (entry 𝓜 (next 𝓜 s h) a b) ≡ true → (isLive (entry 𝓜 s a b) ≡ true) ⊎ ((h .o ≡ a) × (h .e ≡ b) × (isLive (h .x₀) ≡ false)) → a ≤ r′ a b
       low a b t (inl l) = omega (arith, R .low a b l, agree a b l)
       low a b t (inr q) =
           subst (λ (u : ℕ). u ≤ r′ u b) (q .0)
-          (subst (λ (u : ℕ). h .o ≤ r′ (h .o) u) (q .1) (made (q .2) (live-here a b t (q .0) (q .1)) .0))
-        where
-          live-here : (a b : ℕ) → isLive (entry 𝓜 (next 𝓜 s h) a b) ≡ true → h .o ≡ a → h .e ≡ b → isLive (h .x) ≡ true
-          live-here a b t p q =
-              sym (ap isLive (ap (λ (u : ℕ). entry 𝓜 (next 𝓜 s h) u b) (sym p) ∙ ap (entry 𝓜 (next 𝓜 s h) (h .o)) (sym q) ∙ here)) ∙ t
-
-      new-here : (a b : ℕ) → h .o ≡ a → h .e ≡ b → entry 𝓜 (next 𝓜 s h) a b ≡ h .x
-      new-here a b p q =
-          ap (λ (u : ℕ). entry 𝓜 (next 𝓜 s h) u b) (sym p) ∙ ap (entry 𝓜 (next 𝓜 s h) (h .o)) (sym q) ∙ here
+          (subst (λ (u : ℕ). h .o ≤ r′ (h .o) u) (q .1) (made (q .2) (sym (ap isLive (new-here a b (q .0) (q .1))) ∙ t) .0))
 
       own : (a b : ℕ) → isLive (entry 𝓜 (next 𝓜 s h) a b) ≡ true → isTainted (entry 𝓜 (next 𝓜 s h) a b) ≡ false → (isLive (entry 𝓜 s a b) ≡ true) ⊎ ((h .o ≡ a) × (h .e ≡ b) × (isLive (h .x₀) ≡ false)) → r′ a b ≡ a
       own a b t u (inl l) = agree a b l ∙ R .own a b l (sym (live-kept 𝓜 s h F K a b l t .1) ∙ u)

@@ -33,7 +33,7 @@ use Rattle.rules.proofs.Named.{the-ex, the-entry-of, eq-both}
 use Rattle.rules.proofs.Busy.{own-entry, not-exported}
 use Rattle.rules.proofs.Derived.{live-fact}
 use Rattle.rules.specs.Change.{next, Invariant}
-use Rattle.rules.proofs.Next.{cell-here}
+use Rattle.rules.proofs.Next.{cell-stored}
 use Rattle.rules.proofs.Moves.{cellMove, entryMove}
 use Rattle.rules.proofs.Steps.{after-checked, not-false, cond-add, free-entry, empty-slot, has-room, room-sent, room-same, stays-ex, stays-entry}
 use Rattle.rules.proofs.Local.{worker-used, weight-some}
@@ -198,8 +198,9 @@ module _ (𝓜 : Machine) (L : Laws 𝓜) (s : Tables) (I : Invariant 𝓜 s) wh
   here-named : (w x o e n n′ : ℕ) (st st′ : Status) (a a′ : Bool) (i : ℕ) (m : Message) → i < 𝓜 .slots → message s i ≡ Empty → cell 𝓜 s w x ≡ Ex o e n st a → cell 𝓜 (next 𝓜 s (cellMove 𝓜 s w x (Ex o e n st a) (Ex o e n′ st′ a′) i Empty m)) w x ≡ Ex o e n′ st′ a′
   here-named w x o e n n′ st st′ a a′ i m l q old =
       let inside = cell-inside 𝓜 s w x (ap isFree old) in
-      cell-here 𝓜 s (cellMove 𝓜 s w x (Ex o e n st a) (Ex o e n′ st′ a′) i Empty m) (I .facts .sized)
+      cell-stored 𝓜 s (cellMove 𝓜 s w x (Ex o e n st a) (Ex o e n′ st′ a′) i Empty m) (I .facts .sized)
       (record { w-in = inside .0; c-in = inside .1; o-in = L .workers-some; e-in = L .entries-some; i-in = l; old-cell = old; old-entry = refl; old-message = q })
+      .here
 
   mark-on : (t : Bool) → bit t + cond t 0 0 ≡ 0 + cond t 1 0
   mark-on true = refl

@@ -1,7 +1,7 @@
 -- All that holds of a reached state stays under a change that keeps and brings what it must. Assumes nothing.
 use Prim.Native.Nat.{ℕ, suc, _+_, _<_, _≤_}
 use native.Mathlib.Omega.{arith}
-use mathlib.Core.Path.{_≡_, refl, sym, ap, _∙_}
+use mathlib.Core.Path.{_≡_, refl, sym, ap, ap₂, _∙_}
 use mathlib.Core.Bool.{Bool, true, false, _&&_, not, cond}
 use lib.Dec.{eqb}
 use borrow.Author.Tests.{not-true}
@@ -13,10 +13,10 @@ use Rattle.tables.specs.Parts.{namedBy, isLive, isTainted}
 use Rattle.tables.specs.Look.{entry, endKind}
 use Rattle.rules.specs.Sound.{follow}
 use Rattle.rules.specs.Facts.{Facts}
-use Rattle.rules.proofs.Named.{the-live, both-eq}
+use Rattle.rules.proofs.Named.{the-live, both-eq, eq-both}
 use Rattle.rules.proofs.Derived.{live-fact, follow-place}
 use Rattle.rules.specs.Change.{Change, next, Keeps, Carries, Ranked, Invariant}
-use Rattle.rules.proofs.Next.{spot-yes, entry-here}
+use Rattle.rules.proofs.Next.{entry-stored}
 use Rattle.rules.proofs.Kept.{live-kept, facts-kept}
 use Rattle.rules.proofs.Onward.{follow-live}
 use Rattle.rules.proofs.Carried.{reads-kept, answers-kept, known-after}
@@ -45,13 +45,13 @@ module _ (𝓜 : Machine) (s : Tables) (h : Change) (F : Facts 𝓜 s) (K : Keep
       old t =
           let dead = not-true (isLive (h .x₀)) (and-l (not (isLive (h .x₀))) (eqb (h .o) a && eqb (h .e) b) t) in
           let q = both-eq (h .o) a (h .e) b (and-r (not (isLive (h .x₀))) (eqb (h .o) a && eqb (h .e) b) t) in
-          let here = ap (λ (u : ℕ). entry 𝓜 s u b) (sym (q .0)) ∙ ap (entry 𝓜 s (h .o)) (sym (q .1)) ∙ K .placed .old-entry in
+          let here = ap₂ (entry 𝓜 s) (sym (q .0)) (sym (q .1)) ∙ K .placed .old-entry in
           absurd-bool l (ap isLive here ∙ dead)
 
   made : (r : ℕ → ℕ → ℕ) → Ranked 𝓜 s r → isLive (h .x₀) ≡ false → isLive (h .x) ≡ true → (h .o ≤ nextRank r (h .o) (h .e)) × (isTainted (h .x) ≡ false → nextRank r (h .o) (h .e) ≡ h .o) × ((o e : ℕ) → isLive (entry 𝓜 s o e) ≡ true → follow 𝓜 (next 𝓜 s h) (At (h .o) (h .e)) ≡ At o e → r o e < nextRank r (h .o) (h .e))
   unfolding nextRank newRank isNew rankAt
   made r R dead live =
-      let new : isNew (h .o) (h .e) ≡ true = rw (dead, spot-yes (h .o) (h .e) (h .o) (h .e) refl refl) in
+      let new : isNew (h .o) (h .e) ≡ true = rw (dead, eq-both (h .o) (h .e)) in
       let is : nextRank r (h .o) (h .e) ≡ newRank r = ap (λ (t : Bool). cond t (newRank r) (r (h .o) (h .e))) new in
       (omega (arith, is, at-least (isTainted (h .x))), (λ u. is ∙ ap (λ (t : Bool). cond t (suc (h .o + rankAt r (follow 𝓜 (next 𝓜 s h) (At (h .o) (h .e))))) (h .o)) u), (λ o e l q. omega (arith, is, above (isTainted (h .x)) refl o e l q)))
     where
@@ -63,7 +63,7 @@ module _ (𝓜 : Machine) (s : Tables) (h : Change) (F : Facts 𝓜 s) (K : Keep
       above true u o e l q = omega (arith, ap (rankAt r) q)
       above false u o e l q =
           let F′ = facts-kept 𝓜 s h F K in
-          let here = entry-here 𝓜 s h (F .sized) (K .placed) in
+          let here = entry-stored 𝓜 s h (F .sized) (K .placed) .here in
           let lv = the-live (entry 𝓜 (next 𝓜 s h) (h .o) (h .e)) (ap isLive here ∙ live) in
           let f = live-fact 𝓜 (next 𝓜 s h) F′ (h .o) (h .e) lv in
           let names : namedBy (endKind 𝓜 (next 𝓜 s h) (h .o) (lv .cell)) ≡ At o e = sym (follow-live 𝓜 (next 𝓜 s h) (h .o) (h .e) (lv .cell) (lv .weight) (lv .tainted) (lv .is)) ∙ q in
