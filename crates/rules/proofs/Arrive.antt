@@ -30,12 +30,12 @@ use Rattle.rules.specs.Deliver.{takenOff, joined, known, supplied, grown
 use Rattle.rules.specs.Machines.{Laws}
 use Rattle.rules.specs.Facts.{EntryFact, MessageFact, ahead, ReadAhead, EndsIn, KnownFact, AnswerFact}
 use Rattle.rules.proofs.Inside.{cell-inside, entry-inside, message-total}
-use Rattle.rules.proofs.Named.{the-live, ExOf, the-ex-of, eq-both, both-eq}
+use Rattle.rules.proofs.Named.{nowhere-at, the-live, ExOf, the-ex-of, eq-both, both-eq}
 use Rattle.rules.proofs.Derived.{live-fact, held-live, message-held, names-live, reading-cell, asking-cell, LivePlace, named-place, ahead-place}
 use Rattle.rules.specs.Change.{next, Keeps, Ranked, Invariant}
 use Rattle.rules.proofs.Next.{cell-stored}
 use Rattle.rules.proofs.Kept.{facts-kept}
-use Rattle.rules.proofs.Onward.{follow-live, nowhere-at, ahead-kept, ends-kept}
+use Rattle.rules.proofs.Onward.{follow-live, ahead-kept, ends-kept}
 use Rattle.rules.proofs.Count.{standing-some, standing-falls, EndIs, plain, leads, end-is}
 use Rattle.rules.proofs.Measure.{spends, status-same, kind-same, Arrived, arrived, arrived-cell, arrived-ex, arrived-entry}
 use Rattle.rules.proofs.Moves.{cellMove, entryMove, put-message, ExMoves, ex-keeps, entry-keeps}

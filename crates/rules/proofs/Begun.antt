@@ -29,8 +29,8 @@ use Rattle.rules.specs.Sound.{readsFor, asksFor, readsOf, asksOf, follow
 use Rattle.rules.specs.Calls.{allFree, closed, start}
 use Rattle.rules.specs.Facts.{CellFact, EntryFact, MessageFact, ReadAhead, KnownFact, AnswerFact}
 use Rattle.rules.proofs.Inside.{cells-all, entries-all}
+use Rattle.rules.proofs.Named.{nowhere-at}
 use Rattle.rules.specs.Change.{Invariant}
-use Rattle.rules.proofs.Onward.{nowhere-at}
 
 module _ (𝓜 : Machine) (p : ℕ) where
   s : Tables

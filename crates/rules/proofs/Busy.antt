@@ -8,23 +8,18 @@ use Rattle.numbers.specs.Below.{lowest}
 use Rattle.numbers.specs.BelowLaws.{some-of, lowest-at}
 use Rattle.tables.specs.declared.Kind.{Kind}
 use Rattle.tables.specs.declared.Kind.the-variants.{Free, Var, Val, Ref, Ex}
-use Rattle.tables.specs.declared.Holding.{Holding}
-use Rattle.tables.specs.declared.Holding.the-variants.{Unused, Live}
 use Rattle.tables.specs.Machine.{Machine, Tables}
-use Rattle.tables.specs.Parts.{isFree, isReading, isAsking, refNames, isLive, entryNames}
+use Rattle.tables.specs.Parts.{isFree, isReading, isAsking, refNames, entryNames}
 use Rattle.tables.specs.Look.{cell, entry, entryOf, exported, referred, busy}
 use Rattle.rules.proofs.Inside.{cell-inside, entry-inside}
-
-named-live : (c : ℕ) (x : Holding) → entryNames c x ≡ true → isLive x ≡ true
-named-live c Unused t = absurd-bool t refl
-named-live c (Live d n u) t = refl
+use Rattle.rules.proofs.Named.{names-live-entry}
 
 module _ (𝓜 : Machine) (s : Tables) (w c : ℕ) where
   pub exported-by : (e : ℕ) → entryNames c (entry 𝓜 s w e) ≡ true → exported 𝓜 s w c ≡ true
   unfolding exported entryOf
   exported-by e h =
       some-of (𝓜 .entries) (λ f. entryNames c (entry 𝓜 s w f)) e
-      (entry-inside 𝓜 s w e (named-live c (entry 𝓜 s w e) h) .1)
+      (entry-inside 𝓜 s w e (names-live-entry c (entry 𝓜 s w e) h) .1)
       h
 
   pub referred-by : (d : ℕ) → cell 𝓜 s w d ≡ Ref c → referred 𝓜 s w c ≡ true

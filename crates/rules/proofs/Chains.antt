@@ -17,7 +17,8 @@ use Rattle.tables.specs.Look.{entry}
 use Rattle.rules.specs.Sound.{follow, through}
 use Rattle.rules.specs.Refusals.{entryEnd}
 use Rattle.rules.specs.Facts.{ahead, EndsIn}
-use Rattle.rules.proofs.Onward.{nowhere-at, ahead-nowhere}
+use Rattle.rules.proofs.Named.{nowhere-at}
+use Rattle.rules.proofs.Onward.{ahead-nowhere}
 use Rattle.rules.proofs.Arrive.{ahead-add}
 
 module _ (𝓜 : Machine) (s : Tables) where

@@ -1,7 +1,7 @@
 -- How many live entries stand at most at a rank: fewer at a lower one. So a walk makes fewer steps than there are live entries, and comes to
 -- a VAR or a VAL. Assumes nothing.
 use Prim.Native.Nat.{ℕ, zero, suc, _+_, _*_, _/_, _%_, _<_, _≤_}
-use native.Mathlib.Nat.{div-add-mod', mod-lt, div-lt-iff-lt-mul, mul-pos}
+use native.Mathlib.Nat.{div-add-mod', mod-lt, div-lt-iff-lt-mul}
 use native.Mathlib.Omega.{arith}
 use mathlib.Core.Path.{_≡_, refl, sym, ap, subst, _∙_}
 use mathlib.Core.Bool.{Bool, true, false, _&&_, _||_}
@@ -19,7 +19,7 @@ use Rattle.tables.specs.declared.Holding.the-variants.{Unused}
 use Rattle.tables.specs.declared.Place.{Place}
 use Rattle.tables.specs.declared.Place.the-variants.{Nowhere, At}
 use Rattle.tables.specs.declared.Message.{Message}
-use Rattle.tables.specs.declared.Message.the-variants.{Empty, Reference, Release, Read, Answer, Ask, Supply}
+use Rattle.tables.specs.declared.Message.the-variants.{Read}
 use Rattle.tables.specs.Machine.{Machine, Tables}
 use Rattle.tables.specs.Parts.{isFree, isVar, isVal, isEx, namedBy, isLive}
 use Rattle.tables.specs.Look.{holdingAt, cell, entry, endKind, liveEntries, message}
@@ -29,11 +29,11 @@ use Rattle.rules.specs.Refusals.{entryEnd}
 use Rattle.rules.specs.Machines.{Laws, Sized}
 use Rattle.rules.specs.Facts.{CellFact, Facts, ahead, ReadAhead, Reads, ReadsWithin}
 use Rattle.rules.proofs.Inside.{entry-inside}
-use Rattle.rules.proofs.Named.{the-live, the-ex}
-use Rattle.rules.proofs.Derived.{live-fact, LivePlace, named-place, follow-place, ahead-place}
+use Rattle.rules.proofs.Named.{nowhere-at, the-live, the-ex}
+use Rattle.rules.proofs.Derived.{live-fact, LivePlace, named-place, follow-place, ahead-place, read-within}
 use Rattle.rules.specs.Change.{Ranked}
 use Rattle.rules.proofs.Kept.{end-ref, end-self}
-use Rattle.rules.proofs.Onward.{nowhere-at, ahead-nowhere, follow-live}
+use Rattle.rules.proofs.Onward.{ahead-nowhere, follow-live}
 
 bit-le : (a b : Bool) → bit (a && b) ≤ bit a
 bit-le true true = omega arith
@@ -121,26 +121,16 @@ module _ (𝓜 : Machine) (L : Laws 𝓜) (s : Tables) (F : Facts 𝓜 s) (r : �
 
   -- so a Read is reached in fewer steps than there are entries
   pub reads-within : Reads 𝓜 s → ReadsWithin 𝓜 s
-  reads-within reads k = go (message s k) (reads k)
+  reads-within reads k =
+      read-within 𝓜 s L (message s k)
+      (λ rd c o e q. let x : (n : ℕ) × ReadAhead 𝓜 s n (Read rd c o e) = subst (λ (m : Message). (n : ℕ) × ReadAhead 𝓜 s n m) q (reads k) in (x .0, from (x .0) rd c o e (namedBy (cell 𝓜 s rd c)) refl (x .1), x .1))
     where
-      some : 0 < 𝓜 .workers * 𝓜 .entries
-      some = mul-pos (L .workers-some) (L .entries-some)
-
       from : (n rd c o e : ℕ) (p : Place) → namedBy (cell 𝓜 s rd c) ≡ p → ahead 𝓜 s n p ≡ At o e → n < 𝓜 .workers * 𝓜 .entries
       from n rd c o e Nowhere i q = nowhere-at (sym (ahead-nowhere 𝓜 s n) ∙ q)
       from n rd c o e (At a b) i q =
           let live = named-place 𝓜 s F rd c a b i in
           let last = ahead-place 𝓜 s F n (At a b) (subst (LivePlace 𝓜 s) i (named-place 𝓜 s F rd c)) o e q in
           omega (arith, walk-low n a b o e live q, standing-some 𝓜 L s (F .sized) r o e last, standing-all 𝓜 L s (F .sized) r (r a b))
-
-      go : (m : Message) → (n : ℕ) × ReadAhead 𝓜 s n m → (n : ℕ) × (n < 𝓜 .workers * 𝓜 .entries) × ReadAhead 𝓜 s n m
-      go Empty x = (0, some, tt)
-      go (Reference to o e w) x = (0, some, tt)
-      go (Release o e w) x = (0, some, tt)
-      go (Read rd c o e) x = (x .0, from (x .0) rd c o e (namedBy (cell 𝓜 s rd c)) refl (x .1), x .1)
-      go (Answer rd c v) x = (0, some, tt)
-      go (Ask a c o e) x = (0, some, tt)
-      go (Supply a c w) x = (0, some, tt)
 
   -- ---- the end of a live entry's cell
   pub data EndIs (o : ℕ) (k : Kind) : Type 0 where

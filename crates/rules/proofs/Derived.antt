@@ -1,9 +1,12 @@
--- What follows from the facts: ranges, live entries, weights below the ceiling, a waiting cell for each message that needs one. Assumes nothing.
-use Prim.Native.Nat.{ℕ, zero, suc, _<_, _≤_}
+-- What follows from the facts: ranges, live entries, weights below the ceiling, a waiting cell for each message that needs one; and how far
+-- a Read's entry is ahead, for every message. Assumes nothing.
+use Prim.Native.Nat.{ℕ, zero, suc, _*_, _<_, _≤_}
+use native.Mathlib.Nat.{mul-pos}
 use native.Mathlib.Omega.{arith}
 use mathlib.Core.Path.{_≡_, refl, ap}
 use mathlib.Core.Bool.{Bool, true, false}
 use Rattle.numbers.specs.Below.{bit}
+use Rattle.numbers.specs.Lists.{total}
 use Rattle.numbers.specs.Tests.{absurd-bool}
 use Rattle.tables.specs.declared.Status.{Status}
 use Rattle.tables.specs.declared.Kind.{Kind}
@@ -11,22 +14,24 @@ use Rattle.tables.specs.declared.Kind.the-variants.{Free, Var, Val, Ref, Ex}
 use Rattle.tables.specs.declared.Holding.{Holding}
 use Rattle.tables.specs.declared.Holding.the-variants.{Unused, Live}
 use Rattle.tables.specs.declared.Message.{Message}
+use Rattle.tables.specs.declared.Message.the-variants.{Empty, Reference, Release, Read, Answer, Ask, Supply}
 use Rattle.tables.specs.declared.Place.{Place}
 use Rattle.tables.specs.declared.Place.the-variants.{Nowhere, At}
 use Rattle.tables.specs.Machine.{Machine, Tables}
 use Rattle.tables.specs.Parts.{isFree, isReading, isAsking, exNames, namedBy, isLive, entryWeight}
 use Rattle.tables.specs.Look.{cell, entry, end, endKind, message}
 use Rattle.rules.specs.Sound.{readsFor, asksFor, readsOf, asksOf, follow, through, cellHolds, messageHolds, held}
-use Rattle.rules.specs.Facts.{CellFact, EntryFact, Facts, ahead}
+use Rattle.rules.specs.Machines.{Laws}
+use Rattle.rules.specs.Facts.{CellFact, EntryFact, Facts, ahead, ReadAhead}
 use Rattle.rules.proofs.Inside.{entry-inside, cell-total, message-total}
-use Rattle.rules.proofs.Named.{eq-both, IsLive, the-live, the-ex-of}
+use Rattle.rules.proofs.Named.{eq-both, nowhere-at, named-ex, IsLive, the-live, the-ex-of}
 
 -- a weight that is not 0 is a live entry's
 pub weight-live : (x : Holding) → 1 ≤ entryWeight x → isLive x ≡ true
 weight-live Unused h = absurd (omega arith)
 weight-live (Live c n t) h = refl
 
-bit-one : (b : Bool) → 1 ≤ bit b → b ≡ true
+pub bit-one : (b : Bool) → 1 ≤ bit b → b ≡ true
 bit-one true h = refl
 bit-one false h = absurd (omega arith)
 
@@ -102,42 +107,49 @@ module _ (𝓜 : Machine) (s : Tables) (F : Facts 𝓜 s) where
       ex-live 𝓜 s (F .weighed) (F .cells) w c o e (x .weight) (x .status) (x .asking) (x .is)
 
   -- ---- the cell of a message that has one
+  -- where as many messages have the test as a mark says, 1 or none, the mark is set if one has it
+  marked : (q : Message → Bool) (b : Bool) → q Empty ≡ false → total (λ x. bit (q (x .message))) (s .slots) ≡ bit b → (k : ℕ) → q (message s k) ≡ true → b ≡ true
+  marked q b none one k h =
+      bit-one b (omega (arith, message-total 𝓜 s (λ m. bit (q m)) (ap bit none) k, ap bit h, one))
+
   pub reading-cell : (k w c : ℕ) → readsFor w c (message s k) ≡ true → isReading (cell 𝓜 s w c) ≡ true
   unfolding readsOf
-  reading-cell k w c h =
-      bit-one (isReading (cell 𝓜 s w c))
-      (omega (arith, message-total 𝓜 s (λ m. bit (readsFor w c m)) refl k, ap bit h, F .reads-one w c))
+  reading-cell k w c = marked (readsFor w c) (isReading (cell 𝓜 s w c)) refl (F .reads-one w c) k
 
   pub asking-cell : (k w c : ℕ) → asksFor w c (message s k) ≡ true → isAsking (cell 𝓜 s w c) ≡ true
   unfolding asksOf
-  asking-cell k w c h =
-      bit-one (isAsking (cell 𝓜 s w c))
-      (omega (arith, message-total 𝓜 s (λ m. bit (asksFor w c m)) refl k, ap bit h, F .asks-one w c))
+  asking-cell k w c = marked (asksFor w c) (isAsking (cell 𝓜 s w c)) refl (F .asks-one w c) k
 
   -- ---- places: what an EX names, and all that is ahead of it, is live
   pub named-place : (w c : ℕ) → LivePlace 𝓜 s (namedBy (cell 𝓜 s w c))
-  named-place w c o e h = go (cell 𝓜 s w c) refl h
-    where
-      go : (k : Kind) → cell 𝓜 s w c ≡ k → namedBy k ≡ At o e → isLive (entry 𝓜 s o e) ≡ true
-      go Free x q = let y : _≡_ {A = ℕ} 0 1 = cc in absurd (omega arith)
-      go Var x q = let y : _≡_ {A = ℕ} 0 1 = cc in absurd (omega arith)
-      go (Val n) x q = let y : _≡_ {A = ℕ} 0 1 = cc in absurd (omega arith)
-      go (Ref d) x q = let y : _≡_ {A = ℕ} 0 1 = cc in absurd (omega arith)
-      go (Ex o′ e′ n st a) x q =
-          let p : o′ ≡ o = cc in
-          let r : e′ ≡ e = cc in
-          rw (p, r) at (ex-live 𝓜 s (F .weighed) (F .cells) w c o′ e′ n st a x)
+  named-place w c o e h =
+      let x = named-ex o e (cell 𝓜 s w c) h in
+      ex-live 𝓜 s (F .weighed) (F .cells) w c o e (x .weight) (x .status) (x .asking) (x .is)
 
   pub follow-place : (p : Place) → LivePlace 𝓜 s (follow 𝓜 s p)
   unfolding follow endKind
-  follow-place Nowhere o e h = let y : _≡_ {A = ℕ} 0 1 = cc in absurd (omega arith)
+  follow-place Nowhere o e h = nowhere-at h
   follow-place (At a b) o e h = go (entry 𝓜 s a b) h
     where
       go : (x : Holding) → through 𝓜 s a x ≡ At o e → isLive (entry 𝓜 s o e) ≡ true
-      go Unused q = let y : _≡_ {A = ℕ} 0 1 = cc in absurd (omega arith)
+      go Unused q = nowhere-at q
       go (Live c n t) q = named-place a (end 𝓜 s a c) o e q
 
   pub ahead-place : (n : ℕ) (p : Place) → LivePlace 𝓜 s p → LivePlace 𝓜 s (ahead 𝓜 s n p)
   unfolding ahead
   ahead-place zero p l = l
   ahead-place (suc n) p l = ahead-place n (follow 𝓜 s p) (follow-place p)
+
+-- ---- how far a Read's entry is ahead of its EX: a statement on every message, which says nothing of the others
+module _ (𝓜 : Machine) (s : Tables) (L : Laws 𝓜) where
+  some : 0 < 𝓜 .workers * 𝓜 .entries
+  some = mul-pos (L .workers-some) (L .entries-some)
+
+  pub read-within : (m : Message) → ((r c o e : ℕ) → m ≡ Read r c o e → (n : ℕ) × (n < 𝓜 .workers * 𝓜 .entries) × (ahead 𝓜 s n (namedBy (cell 𝓜 s r c)) ≡ At o e)) → (n : ℕ) × (n < 𝓜 .workers * 𝓜 .entries) × ReadAhead 𝓜 s n m
+  read-within Empty read = (0, some, tt)
+  read-within (Reference to o e n) read = (0, some, tt)
+  read-within (Release o e n) read = (0, some, tt)
+  read-within (Read r c o e) read = read r c o e refl
+  read-within (Answer r c n) read = (0, some, tt)
+  read-within (Ask a c o e) read = (0, some, tt)
+  read-within (Supply a c n) read = (0, some, tt)

@@ -1,6 +1,5 @@
 -- Where the soundness test says yes, the facts hold. Assumes nothing.
 use Prim.Native.Nat.{ℕ, zero, suc, _+_, _*_, _<_, _≤_}
-use native.Mathlib.Nat.{mul-pos}
 use native.Mathlib.Omega.{arith}
 use mathlib.Core.Path.{_≡_, refl, sym, ap, ap₂, _∙_}
 use mathlib.Core.Bool.{Bool, true, false, _&&_, _||_, not, cond}
@@ -28,7 +27,8 @@ use Rattle.rules.specs.Sound.{readsFor, asksFor, eachCell, kindInRange, 
 use Rattle.rules.specs.Machines.{Laws, Sized}
 use Rattle.rules.specs.Facts.{CellFact, EntryFact, MessageFact, Facts, ahead, ReadAhead, ReadsWithin}
 use Rattle.rules.proofs.Inside.{cell-inside, entry-inside, each-cell-at, each-entry-at, each-message-at, flat-none}
-use Rattle.rules.proofs.Named.{both-eq, ex-not-free, ExOf, the-ex-of, the-entry-of}
+use Rattle.rules.proofs.Named.{both-eq, ex-not-free, ExOf, the-ex-of, the-entry-of, names-live-entry}
+use Rattle.rules.proofs.Derived.{read-within}
 
 -- a worker in use, where its cell is not free
 in-use : (b r : Bool) → ((b || false) && r) ≡ true → b ≡ true
@@ -160,18 +160,14 @@ module _ (𝓜 : Machine) (L : Laws 𝓜) (s : Tables) (z : Sized 𝓜 s) (h : s
         (λ (u : t ≡ false). or-right t (varValOrSafe 𝓜 s w (endKind 𝓜 s w c)) (q .2) u),
       )
 
-  named-live : (c : ℕ) (x : Holding) → entryNames c x ≡ true → isLive x ≡ true
-  named-live c Unused t = absurd-bool t refl
-  named-live c (Live d n u) t = refl
-
   entry-single : (w e f c : ℕ) → entryNames c (entry 𝓜 s w e) ≡ true → entryNames c (entry 𝓜 s w f) ≡ true → e ≡ f
   unfolding entriesNaming
   entry-single w e f c t u =
       let x = the-entry-of c (entry 𝓜 s w e) t in
       let q = and-3 (not (isFree (cell 𝓜 s w c))) (leb (entriesNaming 𝓜 s w c) 1) (x .tainted || varValOrSafe 𝓜 s w (endKind 𝓜 s w c)) (ap (entryNamesCell 𝓜 s w e) (sym (x .is)) ∙ names-cell w e) in
       count-unique (𝓜 .entries) e f (λ b. entryNames c (entry 𝓜 s w b)) (leb-true (entriesNaming 𝓜 s w c) 1 (q .1))
-      (entry-inside 𝓜 s w e (named-live c (entry 𝓜 s w e) t) .1)
-      (entry-inside 𝓜 s w f (named-live c (entry 𝓜 s w f) u) .1)
+      (entry-inside 𝓜 s w e (names-live-entry c (entry 𝓜 s w e) t) .1)
+      (entry-inside 𝓜 s w f (names-live-entry c (entry 𝓜 s w f) u) .1)
       t
       u
 
@@ -187,20 +183,11 @@ module _ (𝓜 : Machine) (L : Laws 𝓜) (s : Tables) (z : Sized 𝓜 s) (h : s
   message-fact (Ask a c o e) i t = and-3 (isAsking (cell 𝓜 s a c)) (isLive (entry 𝓜 s o e)) (exNames o e (cell 𝓜 s a c)) t .2
   message-fact (Supply a c n) i t = tt
 
-  mul-some : 0 < 𝓜 .workers * 𝓜 .entries
-  mul-some = mul-pos (L .workers-some) (L .entries-some)
-
-  read-within : (m : Message) → messageHasIts 𝓜 s m ≡ true → (n : ℕ) × (n < 𝓜 .workers * 𝓜 .entries) × ReadAhead 𝓜 s n m
+  read-ahead : (m : Message) → messageHasIts 𝓜 s m ≡ true → (n : ℕ) × (n < 𝓜 .workers * 𝓜 .entries) × ReadAhead 𝓜 s n m
   unfolding reached
-  read-within Empty t = (0, mul-some, tt)
-  read-within (Reference to o e n) t = (0, mul-some, tt)
-  read-within (Release o e n) t = (0, mul-some, tt)
-  read-within (Read r c o e) t =
-      walk-ahead 𝓜 s o e (𝓜 .workers * 𝓜 .entries) (namedBy (cell 𝓜 s r c))
-      (and-3 (isReading (cell 𝓜 s r c)) (isLive (entry 𝓜 s o e)) (reached 𝓜 s (namedBy (cell 𝓜 s r c)) o e) t .2)
-  read-within (Answer r c n) t = (0, mul-some, tt)
-  read-within (Ask a c o e) t = (0, mul-some, tt)
-  read-within (Supply a c n) t = (0, mul-some, tt)
+  read-ahead m t =
+      read-within 𝓜 s L m
+      (λ r c o e q. walk-ahead 𝓜 s o e (𝓜 .workers * 𝓜 .entries) (namedBy (cell 𝓜 s r c)) (and-3 (isReading (cell 𝓜 s r c)) (isLive (entry 𝓜 s o e)) (reached 𝓜 s (namedBy (cell 𝓜 s r c)) o e) (sym (ap (messageHasIts 𝓜 s) q) ∙ t) .2))
 
   -- ---- one message for a cell that waits, none for any other
   reading-its : (w c : ℕ) (m : Message) → messageHasIts 𝓜 s m ≡ true → readsFor w c m ≡ true → isReading (cell 𝓜 s w c) ≡ true
@@ -248,23 +235,22 @@ module _ (𝓜 : Machine) (L : Laws 𝓜) (s : Tables) (z : Sized 𝓜 s) (h : s
         (λ u. eqb-true (asksOf 𝓜 s w c) 1 (or-right (not a) (eqb (asksOf 𝓜 s w c) 1) (and-r reads asks t) (ap not u))),
       )
 
+  -- as many messages have the test as the mark says, 1 or none
+  one-or-none : (q : Message → Bool) (b : Bool) → (b ≡ true → total (λ x. bit (q (x .message))) (s .slots) ≡ 1) → ((k : ℕ) → q (message s k) ≡ true → b ≡ true) → total (λ x. bit (q (x .message))) (s .slots) ≡ bit b
+  one-or-none q true one its = one refl
+  one-or-none q false one its = none-of q (λ k. not-yes (λ u. absurd-bool (its k u) refl))
+
   one-read : (w c : ℕ) → readsOf 𝓜 s w c ≡ bit (isReading (cell 𝓜 s w c))
   unfolding readsOf
-  one-read w c = go (isReading (cell 𝓜 s w c)) refl
-    where
-      go : (b : Bool) → isReading (cell 𝓜 s w c) ≡ b → readsOf 𝓜 s w c ≡ bit (isReading (cell 𝓜 s w c))
-      go true t = waits-one w c (cell 𝓜 s w c) (awaited w c) .0 t ∙ sym (ap bit t)
-      go false t =
-          none-of (readsFor w c) (λ k. not-yes (λ u. absurd-bool (reading-its w c (message s k) (has-its k) u) t)) ∙ sym (ap bit t)
+  one-read w c =
+      one-or-none (readsFor w c) (isReading (cell 𝓜 s w c)) (waits-one w c (cell 𝓜 s w c) (awaited w c) .0)
+      (λ k. reading-its w c (message s k) (has-its k))
 
   one-ask : (w c : ℕ) → asksOf 𝓜 s w c ≡ bit (isAsking (cell 𝓜 s w c))
   unfolding asksOf
-  one-ask w c = go (isAsking (cell 𝓜 s w c)) refl
-    where
-      go : (b : Bool) → isAsking (cell 𝓜 s w c) ≡ b → asksOf 𝓜 s w c ≡ bit (isAsking (cell 𝓜 s w c))
-      go true t = waits-one w c (cell 𝓜 s w c) (awaited w c) .1 t ∙ sym (ap bit t)
-      go false t =
-          none-of (asksFor w c) (λ k. not-yes (λ u. absurd-bool (asking-its w c (message s k) (has-its k) u) t)) ∙ sym (ap bit t)
+  one-ask w c =
+      one-or-none (asksFor w c) (isAsking (cell 𝓜 s w c)) (waits-one w c (cell 𝓜 s w c) (awaited w c) .1)
+      (λ k. asking-its w c (message s k) (has-its k))
 
   -- ---- weights: nothing is held on a free entry
   module _ (o e : ℕ) (unused : isLive (entry 𝓜 s o e) ≡ false) where
@@ -346,4 +332,4 @@ module _ (𝓜 : Machine) (L : Laws 𝓜) (s : Tables) (z : Sized 𝓜 s) (h : s
       }
 
   pub sound-reads : ReadsWithin 𝓜 s
-  sound-reads k = read-within (message s k) (has-its k)
+  sound-reads k = read-ahead (message s k) (has-its k)

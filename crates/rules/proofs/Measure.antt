@@ -76,12 +76,12 @@ StatusOn (Known v) Idle = ⊥
 StatusOn (Known v) Reading = ⊥
 StatusOn (Known v) (Known u) = v ≡ u
 
-abbrev pub ExOn : ℕ → ℕ → Status → Kind → Type 0
-ExOn o e st Free = ⊥
-ExOn o e st Var = ⊥
-ExOn o e st (Val n) = ⊥
-ExOn o e st (Ref d) = ⊥
-ExOn o e st (Ex o′ e′ n st′ a) = (o′ ≡ o) × (e′ ≡ e) × StatusOn st st′
+pub record ExOn (o e : ℕ) (st₀ : Status) (k : Kind) : Type 0 where
+  pub weight : ℕ
+  pub status : Status
+  pub asking : Bool
+  pub is : k ≡ Ex o e weight status asking
+  pub on : StatusOn st₀ status
 
 abbrev pub KindOn : Kind → Kind → Type 0
 KindOn Free k = Unit {0}
@@ -100,7 +100,7 @@ kind-same Free = tt
 kind-same Var = tt
 kind-same (Val n) = tt
 kind-same (Ref d) = tt
-kind-same (Ex o e n st a) = (refl, refl, status-same st)
+kind-same (Ex o e n st a) = record { weight = n; status = st; asking = a; is = refl; on = status-same st }
 
 -- a delivery: the invariant stays, by the same rank, and less is left to be delivered
 pub record Arrived (𝓜 : Machine) (s : Tables) (r : ℕ → ℕ → ℕ) (s′ : Tables) : Type 0 where
@@ -164,7 +164,7 @@ module _ (𝓜 : Machine) (L : Laws 𝓜) (s : Tables) (I : Invariant 𝓜 s) (r
   arrived-ex w c o e n₀ n st₀ st a₀ a i m₀ m M C less on =
       let inside = cell-inside 𝓜 s w c (ap isFree (M .old-cell)) in
       subst (Arrived 𝓜 s r) (put-cell-message 𝓜 L s w c (Ex o e n₀ st₀ a₀) (Ex o e n st a) i m₀ m (inside .0) (inside .1))
-      (arrived (cellMove 𝓜 s w c (Ex o e n₀ st₀ a₀) (Ex o e n st a) i m₀ m) (ex-keeps 𝓜 L s (I .facts) w c o e n₀ n st₀ st a₀ a i m₀ m M) C (λ t. t) less (refl, refl, on))
+      (arrived (cellMove 𝓜 s w c (Ex o e n₀ st₀ a₀) (Ex o e n st a) i m₀ m) (ex-keeps 𝓜 L s (I .facts) w c o e n₀ n st₀ st a₀ a i m₀ m M) C (λ t. t) less (record { weight = n; status = st; asking = a; is = refl; on = on }))
 
   pub arrived-entry : (o e : ℕ) (x₀ x : Holding) (i : ℕ) (m₀ m : Message) → EntryMoves 𝓜 L s (I .facts) o e x₀ x i m₀ m → Carries 𝓜 s (entryMove 𝓜 s o e x₀ x i m₀ m) → (isLive x ≡ true → isLive x₀ ≡ true) → spends 𝓜 (next 𝓜 s (entryMove 𝓜 s o e x₀ x i m₀ m)) r m < spends 𝓜 (next 𝓜 s (entryMove 𝓜 s o e x₀ x i m₀ m)) r m₀ → Arrived 𝓜 s r (putMessage (putEntry 𝓜 s o e x) i m)
   arrived-entry o e x₀ x i m₀ m M C old less =

@@ -1,5 +1,6 @@
 -- From a test of one part to the part itself: an EX that names an entry, an entry that names a cell. Assumes nothing.
 use Prim.Native.Nat.{ℕ}
+use native.Mathlib.Omega.{arith}
 use mathlib.Core.Path.{_≡_, refl, ap}
 use mathlib.Core.Bool.{Bool, true, false, _&&_}
 use lib.Dec.{eqb}
@@ -10,7 +11,9 @@ use Rattle.tables.specs.declared.Kind.{Kind}
 use Rattle.tables.specs.declared.Kind.the-variants.{Free, Var, Val, Ref, Ex}
 use Rattle.tables.specs.declared.Holding.{Holding}
 use Rattle.tables.specs.declared.Holding.the-variants.{Unused, Live}
-use Rattle.tables.specs.Parts.{onEx, isFree, isVar, isEx, exNames, isLive, entryNames}
+use Rattle.tables.specs.declared.Place.{Place}
+use Rattle.tables.specs.declared.Place.the-variants.{Nowhere, At}
+use Rattle.tables.specs.Parts.{onEx, isFree, isVar, isEx, exNames, namedBy, isLive, entryNames}
 
 -- two numbers tested at once
 pub both-eq : (a b c d : ℕ) → (eqb a b && eqb c d) ≡ true → (a ≡ b) × (c ≡ d)
@@ -69,6 +72,20 @@ the-ex-of o e (Ex o′ e′ n st a) h =
     let q = both-eq o′ o e′ e h in
     record { weight = n; status = st; asking = a; is = rw (q .0, q .1) }
 
+-- nowhere is no entry's place, so what names an entry is an EX
+pub nowhere-at : {X : Type 0} {o e : ℕ} → _≡_ {A = Place} Nowhere (At o e) → X
+nowhere-at q = let z : _≡_ {A = ℕ} 0 1 = cc in absurd (omega arith)
+
+pub named-ex : (o e : ℕ) (k : Kind) → namedBy k ≡ At o e → ExOf o e k
+named-ex o e Free q = nowhere-at q
+named-ex o e Var q = nowhere-at q
+named-ex o e (Val n) q = nowhere-at q
+named-ex o e (Ref c) q = nowhere-at q
+named-ex o e (Ex o′ e′ n st a) q =
+    let same-owner : o′ ≡ o = cc in
+    let same-entry : e′ ≡ e = cc in
+    record { weight = n; status = st; asking = a; is = rw (same-owner, same-entry) }
+
 pub ex-of-names : (o e : ℕ) (k : Kind) → ExOf o e k → exNames o e k ≡ true
 ex-of-names o e k x = rw (x .is) (eq-both o e)
 
@@ -81,6 +98,9 @@ pub record EntryOf (c : ℕ) (x : Holding) : Type 0 where
 pub the-entry-of : (c : ℕ) (x : Holding) → entryNames c x ≡ true → EntryOf c x
 the-entry-of c Unused h = absurd-bool h refl
 the-entry-of c (Live d n t) h = record { weight = n; tainted = t; is = rw (eqb-true d c h) }
+
+pub names-live-entry : (c : ℕ) (x : Holding) → entryNames c x ≡ true → isLive x ≡ true
+names-live-entry c x h = ap isLive (the-entry-of c x h .is)
 
 pub record IsLive (x : Holding) : Type 0 where
   pub cell : ℕ

@@ -19,14 +19,11 @@ use Rattle.rules.specs.Sound.{follow, through}
 use Rattle.rules.specs.Refusals.{entryEnd}
 use Rattle.rules.specs.Deliver.{cellOf}
 use Rattle.rules.specs.Facts.{CellFact, Facts, ahead, EndsIn}
-use Rattle.rules.proofs.Named.{the-live, IsLive}
+use Rattle.rules.proofs.Named.{nowhere-at, the-live, IsLive}
 use Rattle.rules.proofs.Busy.{exported-by}
 use Rattle.rules.proofs.Derived.{live-fact, LivePlace, follow-place, ahead-place}
 use Rattle.rules.specs.Change.{Change, next, seen, Keeps}
 use Rattle.rules.proofs.Kept.{seen-name, seen-plain, var-val-end, exported-seen, referred-seen, ex-after, VarAfter, var-or-val, ref-to-safe, var-after, live-kept, end-ref, end-self, facts-kept}
-
-pub nowhere-at : {X : Type 0} {o e : ℕ} → _≡_ {A = Place} Nowhere (At o e) → X
-nowhere-at q = let z : _≡_ {A = ℕ} 0 1 = cc in absurd (omega arith)
 
 -- from nowhere no step leads on
 pub ahead-nowhere : (𝓜 : Machine) (s : Tables) (n : ℕ) → ahead 𝓜 s n Nowhere ≡ Nowhere

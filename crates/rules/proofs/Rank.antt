@@ -2,20 +2,20 @@
 use Prim.Native.Nat.{ℕ, _<_, _≤_}
 use native.Mathlib.Omega.{arith}
 use mathlib.Core.Path.{_≡_, refl, sym, ap, ap₂, subst, _∙_}
-use mathlib.Core.Bool.{true, false, not}
+use mathlib.Core.Bool.{true, false, _&&_, not}
 use mathlib.Core.Logic.{_⊎_, inl, inr, ⊎-elim}
 use lib.Dec.{ltb}
 use borrow.Author.Tests.{ltb-true, not-true}
-use Rattle.numbers.specs.Tests.{absurd-bool, or-else, and-l, and-r}
+use Rattle.numbers.specs.Tests.{or-else, and-l, and-r}
 use Rattle.tables.specs.declared.Kind.{Kind}
-use Rattle.tables.specs.declared.Kind.the-variants.{Free, Var, Val, Ref, Ex}
+use Rattle.tables.specs.declared.Kind.the-variants.{Ex}
 use Rattle.tables.specs.declared.Place.the-variants.{At}
 use Rattle.tables.specs.Machine.{Machine, Tables}
 use Rattle.tables.specs.Parts.{namedBy, isLive, isTainted}
 use Rattle.tables.specs.Look.{cell, entry, end, endKind, safe}
 use Rattle.rules.specs.Sound.{varValOrSafe, follow}
 use Rattle.rules.specs.Facts.{CellFact, Facts}
-use Rattle.rules.proofs.Named.{the-live, IsLive}
+use Rattle.rules.proofs.Named.{named-ex, the-live, IsLive}
 use Rattle.rules.proofs.Derived.{named-place, follow-place}
 use Rattle.rules.specs.Change.{Change, next, Keeps, Ranked}
 use Rattle.rules.proofs.Stored.{Stored, stored-each}
@@ -26,37 +26,23 @@ use Rattle.rules.proofs.Onward.{follow-live, follow-from, live-exported
 -- a safe EX names an untainted entry of a lower worker
 pub safe-ex : (𝓜 : Machine) (s : Tables) (v o e : ℕ) (k : Kind) → safe 𝓜 s v k ≡ true → namedBy k ≡ At o e → (o < v) × (isTainted (entry 𝓜 s o e) ≡ false)
 unfolding safe
-safe-ex 𝓜 s v o e Free t q = absurd-bool t refl
-safe-ex 𝓜 s v o e Var t q = absurd-bool t refl
-safe-ex 𝓜 s v o e (Val n) t q = absurd-bool t refl
-safe-ex 𝓜 s v o e (Ref d) t q = absurd-bool t refl
-safe-ex 𝓜 s v o e (Ex o′ e′ n st a) t q =
-    let same-owner : o′ ≡ o = cc in
-    let same-entry : e′ ≡ e = cc in
-    let low = ltb-true o′ v (and-l (ltb o′ v) (not (isTainted (entry 𝓜 s o′ e′))) t) in
-    let clean = not-true (isTainted (entry 𝓜 s o′ e′)) (and-r (ltb o′ v) (not (isTainted (entry 𝓜 s o′ e′))) t) in
-    (omega arith, subst (λ (u : ℕ). isTainted (entry 𝓜 s u e) ≡ false) same-owner (subst (λ (u : ℕ). isTainted (entry 𝓜 s o′ u) ≡ false) same-entry clean))
+safe-ex 𝓜 s v o e k t q =
+    let x = named-ex o e k q in
+    let both : (ltb o v && not (isTainted (entry 𝓜 s o e))) ≡ true = sym (ap (safe 𝓜 s v) (x .is)) ∙ t in
+    (ltb-true o v (and-l (ltb o v) (not (isTainted (entry 𝓜 s o e))) both), not-true (isTainted (entry 𝓜 s o e)) (and-r (ltb o v) (not (isTainted (entry 𝓜 s o e))) both))
 
 -- an end that names an entry, and is a VAR, a VAL or safe, is safe
 pub good-named : (𝓜 : Machine) (s : Tables) (v o e : ℕ) (k : Kind) → varValOrSafe 𝓜 s v k ≡ true → namedBy k ≡ At o e → safe 𝓜 s v k ≡ true
-good-named 𝓜 s v o e Free t q = t
-good-named 𝓜 s v o e Var t q = let z : _≡_ {A = ℕ} 0 1 = cc in absurd (omega arith)
-good-named 𝓜 s v o e (Val n) t q = let z : _≡_ {A = ℕ} 0 1 = cc in absurd (omega arith)
-good-named 𝓜 s v o e (Ref d) t q = t
-good-named 𝓜 s v o e (Ex o′ e′ n st a) t q = t
+good-named 𝓜 s v o e k t q =
+    let x = named-ex o e k q in
+    ap (safe 𝓜 s v) (x .is) ∙ sym (ap (varValOrSafe 𝓜 s v) (x .is)) ∙ t
 
 -- an EX of a worker names an entry of another
 named-other : (𝓜 : Machine) (s : Tables) (F : Facts 𝓜 s) (v d o e : ℕ) → namedBy (cell 𝓜 s v d) ≡ At o e → o ≡ v → ⊥
-named-other 𝓜 s F v d o e q w = go (cell 𝓜 s v d) (F .cells v d) q
-  where
-    go : (k : Kind) → CellFact 𝓜 s v k → namedBy k ≡ At o e → ⊥
-    go Free f p = let z : _≡_ {A = ℕ} 0 1 = cc in absurd (omega arith)
-    go Var f p = let z : _≡_ {A = ℕ} 0 1 = cc in absurd (omega arith)
-    go (Val n) f p = let z : _≡_ {A = ℕ} 0 1 = cc in absurd (omega arith)
-    go (Ref y) f p = let z : _≡_ {A = ℕ} 0 1 = cc in absurd (omega arith)
-    go (Ex o′ e′ n st a) f p =
-        let same : o′ ≡ o = cc in
-        f .1 (same ∙ w)
+named-other 𝓜 s F v d o e q w =
+    let x = named-ex o e (cell 𝓜 s v d) q in
+    let f : CellFact 𝓜 s v (Ex o e (x .weight) (x .status) (x .asking)) = subst (CellFact 𝓜 s v) (x .is) (F .cells v d) in
+    f .1 w
 
 module _ (𝓜 : Machine) (s : Tables) (h : Change) (F : Facts 𝓜 s) (K : Keeps 𝓜 s h) (r : ℕ → ℕ → ℕ) (R : Ranked 𝓜 s r) where
   F′ : Facts 𝓜 (next 𝓜 s h)

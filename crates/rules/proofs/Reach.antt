@@ -18,7 +18,8 @@ use Rattle.rules.specs.Facts.{ahead}
 use Rattle.rules.proofs.Inside.{entry-inside}
 use Rattle.rules.proofs.FromTest.{walk-ahead}
 use Rattle.rules.proofs.ToTest.{ahead-walk}
-use Rattle.rules.proofs.Onward.{nowhere-at, ahead-nowhere, follow-from}
+use Rattle.rules.proofs.Named.{nowhere-at}
+use Rattle.rules.proofs.Onward.{ahead-nowhere, follow-from}
 use Rattle.rules.proofs.Arrive.{ahead-add}
 
 -- a place that is a live entry

@@ -26,7 +26,7 @@ use Rattle.rules.specs.Facts.{CellFact, Facts}
 use Rattle.rules.proofs.Inside.{cell-inside}
 use Rattle.rules.proofs.Named.{the-entry-of}
 use Rattle.rules.proofs.Busy.{own-entry, naming-ref, not-busy}
-use Rattle.rules.proofs.Derived.{live-fact}
+use Rattle.rules.proofs.Derived.{bit-one, live-fact}
 use Rattle.rules.specs.Change.{Carries, Invariant}
 use Rattle.rules.proofs.Stays.{invariant-kept}
 use Rattle.rules.proofs.Moves.{cellMove, entryMove, put-cell-message, put-cell, put-entry-message, CellMoves, cell-keeps, ExMoves, ex-keeps, EntryMoves, entry-keeps}
@@ -105,12 +105,8 @@ module _ (𝓜 : Machine) (L : Laws 𝓜) (s : Tables) (F : Facts 𝓜 s) where
   unfolding freeCells lowestFreeCell
   free-cell w h =
       let r = sum-some (𝓜 .cells) (λ c. bit (isFree (cell 𝓜 s w c))) h in
-      let less = ltb-true (lowest (𝓜 .cells) (λ c. isFree (cell 𝓜 s w c))) (𝓜 .cells) (some-of (𝓜 .cells) (λ c. isFree (cell 𝓜 s w c)) (r .0) (r .1) (one (isFree (cell 𝓜 s w (r .0))) (r .2))) in
+      let less = ltb-true (lowest (𝓜 .cells) (λ c. isFree (cell 𝓜 s w c))) (𝓜 .cells) (some-of (𝓜 .cells) (λ c. isFree (cell 𝓜 s w c)) (r .0) (r .1) (bit-one (isFree (cell 𝓜 s w (r .0))) (r .2))) in
       (less, free-is (cell 𝓜 s w (lowestFreeCell 𝓜 s w)) (lowest-at (𝓜 .cells) (λ c. isFree (cell 𝓜 s w c)) less))
-    where
-      one : (b : Bool) → 1 ≤ bit b → b ≡ true
-      one true k = refl
-      one false k = absurd (omega arith)
 
   pub free-entry : (w : ℕ) → leb (𝓜 .entries) (lowestFreeEntry 𝓜 s w) ≡ false → (lowestFreeEntry 𝓜 s w < 𝓜 .entries) × (entry 𝓜 s w (lowestFreeEntry 𝓜 s w) ≡ Unused)
   unfolding lowestFreeEntry

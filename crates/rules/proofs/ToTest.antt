@@ -6,7 +6,7 @@ use mathlib.Core.Bool.{Bool, true, false, _&&_, _||_, not, cond}
 use lib.Dec.{ltb, leb, eqb}
 use borrow.Author.Tests.{lt-ltb, le-leb, eq-eqb, ne-eqb}
 use Rattle.numbers.specs.Below.{bit, walkMeets}
-use Rattle.numbers.specs.Tests.{absurd-bool, and-i, or-l, or-true}
+use Rattle.numbers.specs.Tests.{and-i, or-l, or-true}
 use Rattle.numbers.specs.BelowLaws.{all-of, count-once}
 use Rattle.tables.specs.declared.Kind.{Kind}
 use Rattle.tables.specs.declared.Kind.the-variants.{Free, Var, Val, Ref, Ex}
@@ -23,7 +23,7 @@ use Rattle.rules.specs.Sound.{readsFor, asksFor, kindInRange, messageInR
 use Rattle.rules.specs.Machines.{Laws}
 use Rattle.rules.specs.Facts.{CellFact, EntryFact, MessageFact, Facts, ahead, ReadsWithin}
 use Rattle.rules.proofs.Inside.{cell-inside, each-cell-of, each-entry-of, each-message-of}
-use Rattle.rules.proofs.Named.{eq-both, ex-not-free}
+use Rattle.rules.proofs.Named.{eq-both, on-ex, ex-not-free}
 use Rattle.rules.proofs.Derived.{cell-used, live-used, held-le, held-live, ex-held, ex-live, names-live, sent-held, reading-cell, asking-cell, named-place, ahead-place}
 
 -- a place that is ahead is met by the walk
@@ -47,6 +47,13 @@ module _ (𝓜 : Machine) (L : Laws 𝓜) (s : Tables) (F : Facts 𝓜 s) (R : R
   worker-in w h = lt-ltb w (s .p) h
 
   -- ---- point 1
+  -- a weight that is held on the entry e of worker o: the entry's numbers are in range, and the weight
+  held-in-range : (o e n : ℕ) → n ≤ held 𝓜 s o e → 1 ≤ n → (ltb o (s .p) && ltb e (𝓜 .entries) && leb n (𝓜 .ceiling)) ≡ true
+  held-in-range o e n h i =
+      let u = live-used 𝓜 s F o e (held-live 𝓜 s (F .weighed) o e (omega arith)) in
+      and-i (and-i (worker-in o (u .0)) (lt-ltb e (𝓜 .entries) (u .1)))
+      (le-leb n (𝓜 .ceiling) (omega (arith, held-le 𝓜 s F o e)))
+
   kind-in-range : (w c : ℕ) (k : Kind) → cell 𝓜 s w c ≡ k → kindInRange 𝓜 s k ≡ true
   kind-in-range w c Free x = refl
   kind-in-range w c Var x = refl
@@ -55,9 +62,8 @@ module _ (𝓜 : Machine) (L : Laws 𝓜) (s : Tables) (F : Facts 𝓜 s) (R : R
       let f : CellFact 𝓜 s w (Ref d) = rw x at (F .cells w c) in
       lt-ltb d (𝓜 .cells) (cell-inside 𝓜 s w d (ex-not-free (λ o e n st a. true) (cell 𝓜 s w d) (f .1)) .1)
   kind-in-range w c (Ex o e n st a) x =
-      let u = live-used 𝓜 s F o e (ex-live 𝓜 s (F .weighed) (F .cells) w c o e n st a x) in
-      and-i (and-i (worker-in o (u .0)) (lt-ltb e (𝓜 .entries) (u .1)))
-      (le-leb n (𝓜 .ceiling) (omega (arith, ex-held 𝓜 s w c o e n st a x, held-le 𝓜 s F o e)))
+      let f : CellFact 𝓜 s w (Ex o e n st a) = rw x at (F .cells w c) in
+      held-in-range o e n (ex-held 𝓜 s w c o e n st a x) (f .2)
 
   in-use : (w : ℕ) (b : Bool) → (b ≡ false → w < s .p) → (ltb w (s .p) || b) ≡ true
   in-use w true h = or-true (ltb w (s .p))
@@ -73,13 +79,6 @@ module _ (𝓜 : Machine) (L : Laws 𝓜) (s : Tables) (F : Facts 𝓜 s) (R : R
       let f : EntryFact 𝓜 s w (Live c n t) = rw q at (F .entries w e) in
       and-i (or-l false (worker-in w (cell-used 𝓜 s F w c (f .2))))
       (and-i (and-i (lt-ltb c (𝓜 .cells) (cell-inside 𝓜 s w c (f .2) .1)) (le-leb n (𝓜 .ceiling) (f .0))) (le-leb 1 n (f .1)))
-
-  -- a weight that is held on the entry e of worker o: the entry's numbers are in range, and the weight
-  held-in-range : (o e n : ℕ) → n ≤ held 𝓜 s o e → 1 ≤ n → (ltb o (s .p) && ltb e (𝓜 .entries) && leb n (𝓜 .ceiling)) ≡ true
-  held-in-range o e n h i =
-      let u = live-used 𝓜 s F o e (held-live 𝓜 s (F .weighed) o e (omega arith)) in
-      and-i (and-i (worker-in o (u .0)) (lt-ltb e (𝓜 .entries) (u .1)))
-      (le-leb n (𝓜 .ceiling) (omega (arith, held-le 𝓜 s F o e)))
 
   place-in-range : (w c : ℕ) → isFree (cell 𝓜 s w c) ≡ false → (ltb w (s .p) && ltb c (𝓜 .cells)) ≡ true
   place-in-range w c h =
@@ -130,16 +129,10 @@ module _ (𝓜 : Machine) (L : Laws 𝓜) (s : Tables) (F : Facts 𝓜 s) (R : R
       and-i (and-i p (worker-in o (u .0))) (lt-ltb e (𝓜 .entries) (u .1))
   message-in-range k (Supply a c n) x =
       let h = ask-cell k a c (Supply a c n) x (eq-both a c) in
-      and-i (place-in-range a c (ex-not-free (λ o e n st a. a) (cell 𝓜 s a c) h)) (le-leb n (𝓜 .ceiling) (supply-le (cell 𝓜 s a c) refl h))
-    where
-      supply-le : (j : Kind) → cell 𝓜 s a c ≡ j → isAsking j ≡ true → n ≤ 𝓜 .ceiling
-      supply-le Free q t = absurd-bool t refl
-      supply-le Var q t = absurd-bool t refl
-      supply-le (Val v) q t = absurd-bool t refl
-      supply-le (Ref d) q t = absurd-bool t refl
-      supply-le (Ex o e v st b) q t =
-          let same : messageHolds 𝓜 s o e (Supply a c n) ≡ n = rw (q, eq-both o e) in
-          omega (arith, sent-held 𝓜 s k o e n (Supply a c n) x same, held-le 𝓜 s F o e)
+      let j = on-ex (λ o e n st a. a) (cell 𝓜 s a c) h in
+      let whole : messageHolds 𝓜 s (j .owner) (j .entry) (Supply a c n) ≡ n = ap (λ (y : Kind). cond (exNames (j .owner) (j .entry) y) n 0) (j .is) ∙ ap (λ (t : Bool). cond t n 0) (eq-both (j .owner) (j .entry)) in
+      and-i (place-in-range a c (ap isFree (j .is)))
+      (le-leb n (𝓜 .ceiling) (omega (arith, sent-held 𝓜 s k (j .owner) (j .entry) n (Supply a c n) x whole, held-le 𝓜 s F (j .owner) (j .entry))))
 
   -- ---- points 2 and 3
   names : (w c : ℕ) (k : Kind) → cell 𝓜 s w c ≡ k → cellNames 𝓜 s w c k ≡ true

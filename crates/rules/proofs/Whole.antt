@@ -13,7 +13,7 @@ use Rattle.tables.specs.declared.Slot.{Slot}
 use Rattle.tables.specs.declared.Status.{Status}
 use Rattle.tables.specs.declared.Status.the-variants.{Idle, Reading, Known}
 use Rattle.tables.specs.declared.Kind.{Kind}
-use Rattle.tables.specs.declared.Kind.the-variants.{Free, Var, Val, Ref, Ex}
+use Rattle.tables.specs.declared.Kind.the-variants.{Ex}
 use Rattle.tables.specs.declared.Holding.{Holding}
 use Rattle.tables.specs.declared.Holding.the-variants.{Unused, Live}
 use Rattle.tables.specs.declared.Message.{Message}
@@ -39,7 +39,7 @@ use Rattle.rules.proofs.ToTest.{facts-sound}
 use Rattle.rules.specs.Change.{Ranked, Invariant}
 use Rattle.rules.specs.Statements.{noStart, FreedAtNothing, NoLoops, AtMostB, holdsReady, AtRest, readOfUnbound, KnownWith, Brought, Demand3}
 use Rattle.rules.proofs.Count.{standing-live, reads-within, comes-to-end}
-use Rattle.rules.proofs.Measure.{measure, measure-bound, KindOn, ExOn, Arrived}
+use Rattle.rules.proofs.Measure.{measure, measure-bound, StatusOn, KindOn, ExOn, Arrived}
 use Rattle.rules.proofs.Steps.{after-checked}
 use Rattle.rules.proofs.Local.{new-stays, set-stays, bind-stays, transfer-stays, drop-stays}
 use Rattle.rules.proofs.Send.{export-stays, indirect-stays, read-stays, ask-stays}
@@ -193,43 +193,34 @@ module _ (𝓜 : Machine) (L : Laws 𝓜) where
     is-known : (n : ℕ) (a : Bool) → cell 𝓜 s w c ≡ Ex o e n (Known v) a → Told s w c o e v
 
   told-next : (s t : Tables) (r : ℕ → ℕ → ℕ) (w c o e v : ℕ) → Arrived 𝓜 s r t → Told s w c o e v → Told t w c o e v
-  told-next s t r w c o e v x (reads-on n a q ends) = go (cell 𝓜 t w c) refl (subst (λ (k : Kind). KindOn k (cell 𝓜 t w c)) q (x .on w c)) ends
+  told-next s t r w c o e v x (reads-on n a q ends) = by (y .status) (y .is) (y .on)
     where
-      go : (k : Kind) → cell 𝓜 t w c ≡ k → ExOn o e Reading (cell 𝓜 t w c) → EndsIn 𝓜 s (At o e) v → Told t w c o e v
-      go k i on ends = by k i (subst (ExOn o e Reading) i on)
-        where
-          live : (n′ : ℕ) (st : Status) (a′ : Bool) → cell 𝓜 t w c ≡ Ex o e n′ st a′ → EndsIn 𝓜 t (At o e) v
-          live n′ st a′ j =
-              x .ends (At o e) v
-              (subst (LivePlace 𝓜 t) (ap namedBy j) (named-place 𝓜 t (x .invariant .facts) w c))
-              ends
+      y : ExOn o e Reading (cell 𝓜 t w c)
+      y = subst (λ (k : Kind). KindOn k (cell 𝓜 t w c)) q (x .on w c)
 
-          by : (k : Kind) → cell 𝓜 t w c ≡ k → ExOn o e Reading k → Told t w c o e v
-          by Free i on = absurd on
-          by Var i on = absurd on
-          by (Val m) i on = absurd on
-          by (Ref d) i on = absurd on
-          by (Ex o′ e′ n′ Idle a′) i on = absurd (on .2)
-          by (Ex o′ e′ n′ Reading a′) i on =
-              let j : cell 𝓜 t w c ≡ Ex o e n′ Reading a′ = i ∙ ap (λ (y : ℕ). Ex y e′ n′ Reading a′) (on .0) ∙ ap (λ (y : ℕ). Ex o y n′ Reading a′) (on .1) in
-              reads-on n′ a′ j (live n′ Reading a′ j)
-          by (Ex o′ e′ n′ (Known u) a′) i on =
-              let j : cell 𝓜 t w c ≡ Ex o e n′ (Known u) a′ = i ∙ ap (λ (y : ℕ). Ex y e′ n′ (Known u) a′) (on .0) ∙ ap (λ (y : ℕ). Ex o y n′ (Known u) a′) (on .1) in
-              let true-end : EndsIn 𝓜 t (At o e) u = subst (KnownFact 𝓜 t) j (x .invariant .known w c) in
-              let same = ends-one 𝓜 t (At o e) u v true-end (live n′ (Known u) a′ j) in
-              is-known n′ a′ (j ∙ ap (λ (y : ℕ). Ex o e n′ (Known y) a′) same)
-  told-next s t r w c o e v x (is-known n a q) = by (cell 𝓜 t w c) refl (subst (λ (k : Kind). KindOn k (cell 𝓜 t w c)) q (x .on w c))
+      there : EndsIn 𝓜 t (At o e) v
+      there =
+          x .ends (At o e) v
+          (subst (LivePlace 𝓜 t) (ap namedBy (y .is)) (named-place 𝓜 t (x .invariant .facts) w c))
+          ends
+
+      by : (st : Status) → cell 𝓜 t w c ≡ Ex o e (y .weight) st (y .asking) → StatusOn Reading st → Told t w c o e v
+      by Idle i on = absurd on
+      by Reading i on = reads-on (y .weight) (y .asking) i there
+      by (Known u) i on =
+          let true-end : EndsIn 𝓜 t (At o e) u = subst (KnownFact 𝓜 t) i (x .invariant .known w c) in
+          let same = ends-one 𝓜 t (At o e) u v true-end there in
+          is-known (y .weight) (y .asking) (i ∙ ap (λ (z : ℕ). Ex o e (y .weight) (Known z) (y .asking)) same)
+  told-next s t r w c o e v x (is-known n a q) = by (y .status) (y .is) (y .on)
     where
-      by : (k : Kind) → cell 𝓜 t w c ≡ k → ExOn o e (Known v) k → Told t w c o e v
-      by Free i on = absurd on
-      by Var i on = absurd on
-      by (Val m) i on = absurd on
-      by (Ref d) i on = absurd on
-      by (Ex o′ e′ n′ Idle a′) i on = absurd (on .2)
-      by (Ex o′ e′ n′ Reading a′) i on = absurd (on .2)
-      by (Ex o′ e′ n′ (Known u) a′) i on =
-          is-known n′ a′
-          (i ∙ ap (λ (y : ℕ). Ex y e′ n′ (Known u) a′) (on .0) ∙ ap (λ (y : ℕ). Ex o y n′ (Known u) a′) (on .1) ∙ ap (λ (y : ℕ). Ex o e n′ (Known y) a′) (sym (on .2)))
+      y : ExOn o e (Known v) (cell 𝓜 t w c)
+      y = subst (λ (k : Kind). KindOn k (cell 𝓜 t w c)) q (x .on w c)
+
+      by : (st : Status) → cell 𝓜 t w c ≡ Ex o e (y .weight) st (y .asking) → StatusOn (Known v) st → Told t w c o e v
+      by Idle i on = absurd on
+      by Reading i on = absurd on
+      by (Known u) i on =
+          is-known (y .weight) (y .asking) (i ∙ ap (λ (z : ℕ). Ex o e (y .weight) (Known z) (y .asking)) (sym on))
 
   told-drained : (s : Tables) (ks : List ℕ) (w c o e v : ℕ) → Invariant 𝓜 s → Told s w c o e v → Told (drained 𝓜 s ks) w c o e v
   unfolding drained
