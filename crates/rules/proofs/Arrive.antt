@@ -22,11 +22,11 @@ use Rattle.tables.specs.declared.Message.the-variants.{Empty, Reference, Releas
 use Rattle.tables.specs.declared.Place.{Place}
 use Rattle.tables.specs.declared.Place.the-variants.{Nowhere, At}
 use Rattle.tables.specs.Machine.{Machine, Tables}
-use Rattle.tables.specs.Parts.{isFree, isVar, isVal, isReading, isAsking, exNames, namedBy, isLive, entryNames, entryWeight, isEmpty, goesTo}
+use Rattle.tables.specs.Parts.{isFree, isVar, isVal, isReading, isAsking, exNames, namedBy, isLive, isTainted, entryNames, entryWeight, isEmpty, goesTo}
 use Rattle.tables.specs.Look.{cell, entry, end, endKind, exNaming, lowestFreeCell, booked, freeCells, message, putCell, putEntry, putMessage}
 use Rattle.rules.specs.Sound.{readsFor, asksFor, follow, messageHolds, held}
 use Rattle.rules.specs.Refusals.{entryEnd, ready, deliverRefusals}
-use Rattle.rules.specs.Deliver.{takenOff, joined, known, supplied, grown, readOn, arrives, deliverHome, deliverAway, deliverRelease, deliverRead, deliverAnswer, deliverSupply, deliverAsk, deliverMessage, deliver}
+use Rattle.rules.specs.Deliver.{cellOf, takenOff, joined, known, supplied, grown, readOn, arrives, deliverHome, deliverAway, deliverRelease, deliverRead, deliverAnswer, deliverSupply, deliverAsk, deliverMessage, deliver}
 use Rattle.rules.specs.Machines.{Laws}
 use Rattle.rules.specs.Facts.{EntryFact, MessageFact, ahead, ReadAhead, EndsIn, KnownFact, AnswerFact}
 use Rattle.rules.proofs.Inside.{cell-inside, entry-inside, message-total}
@@ -96,51 +96,42 @@ module _ (𝓜 : Machine) (L : Laws 𝓜) (s : Tables) (I : Invariant 𝓜 s) (�
       subst (λ (x : Holding). Arrived 𝓜 s ρ (putMessage (putEntry 𝓜 s o e (takenOff w x)) k Empty)) (sym (l .is))
       (go (l .cell) (l .weight) (l .tainted) (l .is) f (inside .0) (inside .1) within enough (leb (l .weight) w) refl)
     where
+      -- the entry, which held x₀, then holds x
+      taken : (x₀ x : Holding) → entry 𝓜 s o e ≡ x₀ → o < 𝓜 .workers → e < 𝓜 .entries → k < 𝓜 .slots → EntryFact 𝓜 (next 𝓜 s (entryMove 𝓜 s o e x₀ x k m₀ Empty)) o x → (isLive x₀ ≡ true → isLive x ≡ true → (cellOf x ≡ cellOf x₀) × (isTainted x ≡ isTainted x₀)) → ((f d : ℕ) → entryNames d x ≡ true → entryNames d (entry 𝓜 s o f) ≡ true → f ≡ e) → (isLive x ≡ true → isLive x₀ ≡ true) → entryWeight x + w ≡ entryWeight x₀ → Arrived 𝓜 s ρ (putMessage (putEntry 𝓜 s o e x) k Empty)
+      taken x₀ x q oi ei ki fact kept new live less =
+          arrived-entry 𝓜 L s I ρ R o e x₀ x k m₀ Empty
+          (record {
+            o-in = oi;
+            e-in = ei;
+            i-in = ki;
+            old-entry = q;
+            old-message = B .slot;
+            entry-ok = inr fact;
+            message-ok = tt;
+            entry-kept = kept;
+            entry-new = new;
+            reads = λ v d. sym (ap bit (B .no-read v d));
+            asks = λ v d. sym (ap bit (B .no-ask v d));
+            weights = λ a b. omega (arith, B .holds a b, cond-add (eqb o a && eqb e b) (entryWeight x) w (entryWeight x₀) less);
+            holds-ok = λ a b. refl;
+            room = λ v. omega (arith, I .facts .room v);
+          })
+          (record { read-ok = inr (0, tt); answer-ok = inr tt; known-ok = inl (λ y. y) })
+          live
+          (B .cost (next 𝓜 s (entryMove 𝓜 s o e x₀ x k m₀ Empty)))
+
       go : (c n : ℕ) (t : Bool) → entry 𝓜 s o e ≡ Live c n t → EntryFact 𝓜 s o (Live c n t) → o < 𝓜 .workers → e < 𝓜 .entries → k < 𝓜 .slots → w ≤ n → (b : Bool) → leb n w ≡ b → Arrived 𝓜 s ρ (putMessage (putEntry 𝓜 s o e (cond b Unused (Live c (n - w) t))) k Empty)
       go c n t q f oi ei ki enough true all =
-          let same : n ≡ w = omega (arith, leb-true n w all) in
-          arrived-entry 𝓜 L s I ρ R o e (Live c n t) Unused k m₀ Empty
-          (record {
-            o-in = oi;
-            e-in = ei;
-            i-in = ki;
-            old-entry = q;
-            old-message = B .slot;
-            entry-ok = inr tt;
-            message-ok = tt;
-            entry-kept = λ a b. absurd-bool b refl;
-            entry-new = λ f d a b. absurd-bool a refl;
-            reads = λ v d. sym (ap bit (B .no-read v d));
-            asks = λ v d. sym (ap bit (B .no-ask v d));
-            weights = λ a b. omega (arith, B .holds a b, cond-add (eqb o a && eqb e b) 0 w n (omega arith));
-            holds-ok = λ a b. refl;
-            room = λ v. omega (arith, I .facts .room v);
-          })
-          (record { read-ok = inr (0, tt); answer-ok = inr tt; known-ok = inl (λ x. x) })
-          (λ y. refl)
-          (B .cost (next 𝓜 s (entryMove 𝓜 s o e (Live c n t) Unused k m₀ Empty)))
+          taken (Live c n t) Unused q oi ei ki tt (λ a b. absurd-bool b refl) (λ f d a b. absurd-bool a refl) (λ y. refl)
+          (omega (arith, leb-true n w all))
       go c n t q f oi ei ki enough false some =
           let more = leb-false n w some in
-          arrived-entry 𝓜 L s I ρ R o e (Live c n t) (Live c (n - w) t) k m₀ Empty
-          (record {
-            o-in = oi;
-            e-in = ei;
-            i-in = ki;
-            old-entry = q;
-            old-message = B .slot;
-            entry-ok = inr (entry-next 𝓜 L s (I .facts) o e (Live c n t) (Live c (n - w) t) k m₀ Empty oi ei ki q (B .slot) c (n - w) t (omega (arith, f .0)) (omega arith) (f .2) (f .3));
-            message-ok = tt;
-            entry-kept = λ a b. (refl, refl);
-            entry-new = λ y d a b. I .facts .entry-once o y e d b (ap (entryNames d) q ∙ a);
-            reads = λ v d. sym (ap bit (B .no-read v d));
-            asks = λ v d. sym (ap bit (B .no-ask v d));
-            weights = λ a b. omega (arith, B .holds a b, cond-add (eqb o a && eqb e b) (n - w) w n (omega arith));
-            holds-ok = λ a b. refl;
-            room = λ v. omega (arith, I .facts .room v);
-          })
-          (record { read-ok = inr (0, tt); answer-ok = inr tt; known-ok = inl (λ x. x) })
+          taken (Live c n t) (Live c (n - w) t) q oi ei ki
+          (entry-next 𝓜 L s (I .facts) o e (Live c n t) (Live c (n - w) t) k m₀ Empty oi ei ki q (B .slot) c (n - w) t (omega (arith, f .0)) (omega arith) (f .2) (f .3))
+          (λ a b. (refl, refl))
+          (λ y d a b. I .facts .entry-once o y e d b (ap (entryNames d) q ∙ a))
           (λ y. refl)
-          (B .cost (next 𝓜 s (entryMove 𝓜 s o e (Live c n t) (Live c (n - w) t) k m₀ Empty)))
+          (omega arith)
 
   -- ---- a Reference away from its owner
   arrives-booked : (k to o e w : ℕ) → message s k ≡ Reference to o e w → 1 ≤ booked s to
