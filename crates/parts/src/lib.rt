@@ -74,11 +74,8 @@ pub fn is_reading(k: Kind) -> bool
     ensures { λ r. ⌜ r ≡ isReading k ⌝ }
 {
     match k {
-        Kind::Free => false,
-        Kind::Var => false,
-        Kind::Val(_) => false,
-        Kind::Ref(_) => false,
         Kind::Ex { status, .. } => reading_of(status),
+        _ => false,
     }
 }
 
@@ -87,11 +84,8 @@ pub fn is_asking(k: Kind) -> bool
     ensures { λ r. ⌜ r ≡ isAsking k ⌝ }
 {
     match k {
-        Kind::Free => false,
-        Kind::Var => false,
-        Kind::Val(_) => false,
-        Kind::Ref(_) => false,
         Kind::Ex { asking, .. } => asking,
+        _ => false,
     }
 }
 
@@ -100,11 +94,8 @@ pub fn ex_names(o: u8, e: u8, k: Kind) -> bool
     ensures { λ r. ⌜ r ≡ exNames o e k ⌝ }
 {
     match k {
-        Kind::Free => false,
-        Kind::Var => false,
-        Kind::Val(_) => false,
-        Kind::Ref(_) => false,
         Kind::Ex { owner, entry, .. } => both(owner == o, entry == e),
+        _ => false,
     }
 }
 
@@ -113,14 +104,11 @@ pub fn named_by(k: Kind) -> Place
     ensures { λ r. ⌜ r ≡ namedBy k ⌝ }
 {
     match k {
-        Kind::Free => Place::Nowhere,
-        Kind::Var => Place::Nowhere,
-        Kind::Val(_) => Place::Nowhere,
-        Kind::Ref(_) => Place::Nowhere,
         Kind::Ex { owner, entry, .. } => Place::At {
             owner: owner,
             entry: entry,
         },
+        _ => Place::Nowhere,
     }
 }
 
@@ -129,11 +117,8 @@ pub fn ex_weight(k: Kind) -> u32
     ensures { λ r. ⌜ r ≡ exWeight k ⌝ }
 {
     match k {
-        Kind::Free => 0,
-        Kind::Var => 0,
-        Kind::Val(_) => 0,
-        Kind::Ref(_) => 0,
         Kind::Ex { weight, .. } => weight,
+        _ => 0,
     }
 }
 

@@ -1,5 +1,6 @@
--- `parts::is_asking` meets its contract, by cases; one arm reads the field of the EX. Assumes nothing.
+-- `parts::is_asking` meets its contract: one arm reads the mark of the EX. Assumes nothing.
 use borrow.Author.Needs.{needs}
+use Rattle.parts.proofs.Others.{not-ex}
 use Rattle.parts.proofs.is_asking.Statement.{statement}
 use Rattle.parts.proofs.is_asking.Tie as tie
 
@@ -8,12 +9,5 @@ is-asking-spec =
     tie.close
     (tie.spec
     (λ c. search needs)
-    (λ c. search needs)
-    (λ c. search needs)
-    (λ c. search needs)
-    (λ c. search needs)
-    (λ c. search needs)
-    (λ c. search needs)
-    (λ c. search needs)
-    (λ c. search needs)
-    (λ c. rw (c .before .k .given .1)))
+    (λ c. rw (c .before .k .given .1))
+    (λ c. not-ex _ (c .before .args .k) (c .match .keys2)))

@@ -1,5 +1,6 @@
--- `parts::named_by` meets its contract, by cases; one arm reads the two fields of the EX. Assumes nothing.
+-- `parts::named_by` meets its contract: one arm reads the two numbers of the EX. Assumes nothing.
 use borrow.Author.Needs.{needs}
+use Rattle.parts.proofs.Others.{not-ex}
 use Rattle.parts.proofs.named_by.Statement.{statement}
 use Rattle.parts.proofs.named_by.Tie as tie
 
@@ -8,12 +9,5 @@ named-by-spec =
     tie.close
     (tie.spec
     (λ c. search needs)
-    (λ c. search needs)
-    (λ c. search needs)
-    (λ c. search needs)
-    (λ c. search needs)
-    (λ c. search needs)
-    (λ c. search needs)
-    (λ c. search needs)
-    (λ c. search needs)
-    (λ c. rw (c .before .k .given .1)))
+    (λ c. rw (c .before .k .given .1))
+    (λ c. not-ex _ (c .before .args .k) (c .match .keys2)))
