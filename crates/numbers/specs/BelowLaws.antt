@@ -187,20 +187,6 @@ lowest-none n p h =
     let e = none-from p n 0 h in
     omega arith
 
-le-from : (p : ℕ → Bool) (n i : ℕ) → lowestFrom p n i ≤ i + n
-unfolding lowestFrom
-le-from p zero i = omega arith
-le-from p (suc n) i = go (p i) (le-from p n (suc i))
-  where
-    go : (b : Bool) → lowestFrom p n (suc i) ≤ suc i + n → cond b i (lowestFrom p n (suc i)) ≤ i + suc n
-    go true h = omega arith
-    go false h = omega arith
-
-pub lowest-le : (n : ℕ) (p : ℕ → Bool) → lowest n p ≤ n
-lowest-le n p =
-    let h = le-from p n 0 in
-    omega arith
-
 -- what a search finds has p, and none below it has
 at-from : (p : ℕ → Bool) (n i : ℕ) → lowestFrom p n i < i + n → p (lowestFrom p n i) ≡ true
 unfolding lowestFrom

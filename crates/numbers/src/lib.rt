@@ -1,7 +1,7 @@
 // Tests without branches: each argument is computed, and the result is what the definition says. specs/ has the definitions and laws
 // of searching, counting and summing.
 ghost use mathlib.Core.Path.{_≡_};
-ghost use mathlib.Core.Bool.{_&&_, _||_, cond};
+ghost use mathlib.Core.Bool.{_&&_, _||_};
 ghost use Rattle.numbers.specs.Below.{bit};
 
 pub fn both(a: bool, b: bool) -> bool

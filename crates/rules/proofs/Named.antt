@@ -86,9 +86,6 @@ named-ex o e (Ex o′ e′ n st a) q =
     let same-entry : e′ ≡ e = cc in
     record { weight = n; status = st; asking = a; is = rw (same-owner, same-entry) }
 
-pub ex-of-names : (o e : ℕ) (k : Kind) → ExOf o e k → exNames o e k ≡ true
-ex-of-names o e k x = rw (x .is) (eq-both o e)
-
 -- a live entry that names the cell c
 pub record EntryOf (c : ℕ) (x : Holding) : Type 0 where
   pub weight : ℕ
