@@ -1,10 +1,15 @@
 // Puts every call, with each of its answers and refusals, to hand-made states and writes what is done, a line each: a state that is
 // made; a call, the three bytes of its frame and the answer as the text program prints it; or a look, a number of the state between
 // calls. A refused call hands its state on to the next, and a bound or a read after a row of refusals shows that it is as it was.
+use cases_parts::ex;
+use cases_parts::idle;
+use cases_parts::live;
+use cases_parts::tainted;
+use lookups::put_cell;
+use lookups::put_entry;
+use lookups::put_message;
 use tables::Call;
-use tables::Holding;
 use tables::Kind;
-use tables::Message;
 use tables::Outcome;
 use tables::Reply;
 use tables::State;
@@ -12,38 +17,8 @@ use tables::Status;
 
 // ---- parts
 
-fn ex(owner: u8, entry: u8, weight: u32, status: Status, asking: bool) -> Kind {
-    Kind::Ex {
-        owner: owner,
-        entry: entry,
-        weight: weight,
-        status: status,
-        asking: asking,
-    }
-}
-
-fn idle(owner: u8, entry: u8, weight: u32) -> Kind {
-    ex(owner, entry, weight, Status::Idle, false)
-}
-
 fn known(owner: u8, entry: u8, weight: u32, n: u32) -> Kind {
     ex(owner, entry, weight, Status::Known(n), false)
-}
-
-fn live(cell: u8, weight: u32) -> Holding {
-    Holding::Live {
-        cell: cell,
-        weight: weight,
-        tainted: false,
-    }
-}
-
-fn tainted(cell: u8, weight: u32) -> Holding {
-    Holding::Live {
-        cell: cell,
-        weight: weight,
-        tainted: true,
-    }
 }
 
 // ---- lines
@@ -65,18 +40,6 @@ fn write_bytes(name: &[u8], a: u8, b: u8, c: u8) {
 }
 
 // ---- states
-
-fn put_cell(s: State, w: u8, c: u8, k: Kind) -> State {
-    lookups::put_cell(s, w, c, k)
-}
-
-fn put_entry(s: State, w: u8, e: u8, x: Holding) -> State {
-    lookups::put_entry(s, w, e, x)
-}
-
-fn put_message(s: State, slot: u8, m: Message) -> State {
-    lookups::put_message(s, slot, m)
-}
 
 // Worker 0: a VAR, a VAL and an unsafe EX that are exported, a VAR and a VAL that are not.
 fn cells_of_0(s: State) -> State {
@@ -118,19 +81,8 @@ fn entries(s: State) -> State {
 
 // The Read of the reading EX, which is not ready, and the Ask of the asking one.
 fn messages(s: State) -> State {
-    let read = Message::Read {
-        reader: 2,
-        cell: 0,
-        owner: 0,
-        entry: 0,
-    };
-    let ask = Message::Ask {
-        asker: 2,
-        cell: 1,
-        owner: 0,
-        entry: 1,
-    };
-    put_message(put_message(s, 0, read), 1, ask)
+    let t = put_message(s, 0, cases_parts::read(2, 0, 0, 0));
+    put_message(t, 1, cases_parts::ask(2, 1, 0, 1))
 }
 
 // Four workers, five live entries, slots from 2 on empty; bound is 8.
@@ -161,11 +113,7 @@ fn crowd(s: State, w: u8, from: u8, below: u8) -> State {
 // The empty slots of the base hold Releases of weight 1 of entry 1 of worker 0.
 fn fill_slots(s: State) -> State {
     io::write_all(1, b"fill-slots\n");
-    let release = Message::Release {
-        owner: 0,
-        entry: 1,
-        weight: 1,
-    };
+    let release = cases_parts::release(0, 1, 1);
     let mut t = put_entry(s, 0, 1, live(1, 265));
     for k in 2..64u8 {
         t = put_message(t, k, release);

@@ -1,145 +1,44 @@
 // Puts hand-made states to the soundness test and writes, for each, its name and the first broken point, 0 where the state is sound.
 // Most are a small change of one busy state that is sound; the points before the one shown hold.
+use cases_parts::answer;
+use cases_parts::ask;
+use cases_parts::ex;
+use cases_parts::idle;
+use cases_parts::live;
+use cases_parts::read;
+use cases_parts::reference;
+use cases_parts::release;
+use cases_parts::supply;
+use cases_parts::tainted;
+use changes::all_free;
 use lookups::put_cell;
 use lookups::put_entry;
 use lookups::put_message;
-use tables::Cell;
-use tables::Entry;
 use tables::Holding;
 use tables::Kind;
 use tables::Message;
-use tables::Slot;
 use tables::State;
 use tables::Status;
 
 // ---- parts
 
-fn idle(owner: u8, entry: u8, weight: u32) -> Kind {
-    Kind::Ex {
-        owner: owner,
-        entry: entry,
-        weight: weight,
-        status: Status::Idle,
-        asking: false,
-    }
-}
-
 fn reading(owner: u8, entry: u8, weight: u32, asking: bool) -> Kind {
-    Kind::Ex {
-        owner: owner,
-        entry: entry,
-        weight: weight,
-        status: Status::Reading,
-        asking: asking,
-    }
+    ex(owner, entry, weight, Status::Reading, asking)
 }
 
 fn asking(owner: u8, entry: u8, weight: u32) -> Kind {
-    Kind::Ex {
-        owner: owner,
-        entry: entry,
-        weight: weight,
-        status: Status::Idle,
-        asking: true,
-    }
+    ex(owner, entry, weight, Status::Idle, true)
 }
 
 fn known_asking(owner: u8, entry: u8, weight: u32, n: u32) -> Kind {
-    Kind::Ex {
-        owner: owner,
-        entry: entry,
-        weight: weight,
-        status: Status::Known(n),
-        asking: true,
-    }
-}
-
-fn live(cell: u8, weight: u32) -> Holding {
-    Holding::Live {
-        cell: cell,
-        weight: weight,
-        tainted: false,
-    }
-}
-
-fn tainted(cell: u8, weight: u32) -> Holding {
-    Holding::Live {
-        cell: cell,
-        weight: weight,
-        tainted: true,
-    }
-}
-
-fn reference(to: u8, owner: u8, entry: u8, weight: u32) -> Message {
-    Message::Reference {
-        to: to,
-        owner: owner,
-        entry: entry,
-        weight: weight,
-    }
-}
-
-fn release(owner: u8, entry: u8, weight: u32) -> Message {
-    Message::Release {
-        owner: owner,
-        entry: entry,
-        weight: weight,
-    }
-}
-
-fn read(reader: u8, cell: u8, owner: u8, entry: u8) -> Message {
-    Message::Read {
-        reader: reader,
-        cell: cell,
-        owner: owner,
-        entry: entry,
-    }
-}
-
-fn answer(reader: u8, cell: u8, n: u32) -> Message {
-    Message::Answer {
-        reader: reader,
-        cell: cell,
-        n: n,
-    }
-}
-
-fn ask(asker: u8, cell: u8, owner: u8, entry: u8) -> Message {
-    Message::Ask {
-        asker: asker,
-        cell: cell,
-        owner: owner,
-        entry: entry,
-    }
-}
-
-fn supply(asker: u8, cell: u8, weight: u32) -> Message {
-    Message::Supply {
-        asker: asker,
-        cell: cell,
-        weight: weight,
-    }
+    ex(owner, entry, weight, Status::Known(n), true)
 }
 
 // ---- states
 
-// All free, with P workers.
-fn empty(p: u8) -> State {
-    State {
-        p: p,
-        cells: [Cell { kind: Kind::Free }; 256],
-        entries: [Entry {
-            holding: Holding::Unused,
-        }; 128],
-        slots: [Slot {
-            message: Message::Empty,
-        }; 64],
-    }
-}
-
 // Four workers: each kind of cell.
 fn cells_of_0(p: u8) -> State {
-    let mut s = empty(p);
+    let mut s = all_free(p);
     s = put_cell(s, 0, 0, Kind::Var);
     s = put_cell(s, 0, 1, Kind::Val(7));
     put_cell(s, 0, 2, idle(3, 0, 70))
@@ -243,8 +142,8 @@ fn show(name: &[u8], s: State) {
 }
 
 fn sound_states() {
-    show(b"closed", empty(0));
-    show(b"one-worker", empty(1));
+    show(b"closed", all_free(0));
+    show(b"one-worker", all_free(1));
     show(b"busy", busy(4));
     show(b"eight-workers", busy(8));
 }
@@ -281,8 +180,11 @@ fn sound_references() {
 
 fn workers_beyond_p() {
     show(b"p-9", busy(9));
-    show(b"p-255", empty(255));
-    show(b"closed-with-a-cell", put_cell(empty(0), 0, 0, Kind::Var));
+    show(b"p-255", all_free(255));
+    show(
+        b"closed-with-a-cell",
+        put_cell(all_free(0), 0, 0, Kind::Var),
+    );
     show(b"cell-of-worker-p", with_cell(4, 0, Kind::Var));
     show(b"cell-of-worker-7", with_cell(7, 31, Kind::Val(0)));
     show(b"entry-of-worker-p", with_entry(4, 0, live(0, 1)));

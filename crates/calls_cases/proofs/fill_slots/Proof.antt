@@ -20,6 +20,7 @@ fill-slots-spec =
     (λ c κs. tt)
     (λ c κs. tt)
     (λ c κs. tt)
+    (λ c κs. tt)
     (λ c. tt)
     (λ c κs. tt)
     (λ c. search needs)
