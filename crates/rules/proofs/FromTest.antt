@@ -190,17 +190,18 @@ module _ (𝓜 : Machine) (L : Laws 𝓜) (s : Tables) (z : Sized 𝓜 s) (h : s
       (λ r c o e q. walk-ahead 𝓜 s o e (𝓜 .workers * 𝓜 .entries) (namedBy (cell 𝓜 s r c)) (and-3 (isReading (cell 𝓜 s r c)) (isLive (entry 𝓜 s o e)) (reached 𝓜 s (namedBy (cell 𝓜 s r c)) o e) (sym (ap (messageHasIts 𝓜 s) q) ∙ t) .2))
 
   -- ---- one message for a cell that waits, none for any other
+  its-cell : (f : Kind → Bool) (r d w c : ℕ) → (eqb r w && eqb d c) ≡ true → f (cell 𝓜 s r d) ≡ true → f (cell 𝓜 s w c) ≡ true
+  its-cell f r d w c u t =
+      let q = both-eq r w d c u in
+      rw (← q .0, ← q .1) t
+
   reading-its : (w c : ℕ) (m : Message) → messageHasIts 𝓜 s m ≡ true → readsFor w c m ≡ true → isReading (cell 𝓜 s w c) ≡ true
   reading-its w c Empty t u = absurd-bool u refl
   reading-its w c (Reference to o e n) t u = absurd-bool u refl
   reading-its w c (Release o e n) t u = absurd-bool u refl
   reading-its w c (Read r d o e) t u =
-      let q = both-eq r w d c u in
-      rw (← q .0, ← q .1)
-      (and-3 (isReading (cell 𝓜 s r d)) (isLive (entry 𝓜 s o e)) (reached 𝓜 s (namedBy (cell 𝓜 s r d)) o e) t .0)
-  reading-its w c (Answer r d n) t u =
-      let q = both-eq r w d c u in
-      rw (← q .0, ← q .1) t
+      its-cell isReading r d w c u (and-3 (isReading (cell 𝓜 s r d)) (isLive (entry 𝓜 s o e)) (reached 𝓜 s (namedBy (cell 𝓜 s r d)) o e) t .0)
+  reading-its w c (Answer r d n) t u = its-cell isReading r d w c u t
   reading-its w c (Ask a d o e) t u = absurd-bool u refl
   reading-its w c (Supply a d n) t u = absurd-bool u refl
 
@@ -211,12 +212,8 @@ module _ (𝓜 : Machine) (L : Laws 𝓜) (s : Tables) (z : Sized 𝓜 s) (h : s
   asking-its w c (Read r d o e) t u = absurd-bool u refl
   asking-its w c (Answer r d n) t u = absurd-bool u refl
   asking-its w c (Ask a d o e) t u =
-      let q = both-eq a w d c u in
-      rw (← q .0, ← q .1)
-      (and-3 (isAsking (cell 𝓜 s a d)) (isLive (entry 𝓜 s o e)) (exNames o e (cell 𝓜 s a d)) t .0)
-  asking-its w c (Supply a d n) t u =
-      let q = both-eq a w d c u in
-      rw (← q .0, ← q .1) t
+      its-cell isAsking a d w c u (and-3 (isAsking (cell 𝓜 s a d)) (isLive (entry 𝓜 s o e)) (exNames o e (cell 𝓜 s a d)) t .0)
+  asking-its w c (Supply a d n) t u = its-cell isAsking a d w c u t
 
   -- a count over the messages is 0 where no message has the test
   none-of : (q : Message → Bool) → ((k : ℕ) → q (message s k) ≡ false) → total (λ x. bit (q (x .message))) (s .slots) ≡ 0

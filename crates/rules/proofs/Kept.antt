@@ -69,6 +69,12 @@ module _ (𝓜 : Machine) (t : Tables) where
   unfolding endKind end
   end-self v d k q e = rw (q, e) q
 
+  -- an EX that is a VAR, a VAL or safe is safe
+  pub good-ex : (v : ℕ) (k : Kind) → isEx k ≡ true → varValOrSafe 𝓜 t v k ≡ true → safe 𝓜 t v k ≡ true
+  good-ex v k e h =
+      let x = the-ex k e in
+      ap (safe 𝓜 t v) (x .is) ∙ sym (ap (varValOrSafe 𝓜 t v) (x .is)) ∙ h
+
 -- the facts of s, and a change that keeps them
 module _ (𝓜 : Machine) (s : Tables) (h : Change) (F : Facts 𝓜 s) (K : Keeps 𝓜 s h) where
   s′ : Tables
@@ -240,15 +246,8 @@ module _ (𝓜 : Machine) (s : Tables) (h : Change) (F : Facts 𝓜 s) (K : Keep
           let here : cell 𝓜 s′ v d ≡ Ref y = seen-plain (cell 𝓜 s′ v d) (Ref y) refl (exported-seen v d x (ap isVar q) ∙ ap seen q) in
           let f : CellFact 𝓜 s v (Ref y) = rw q at (F .cells v d) in (
             ap isFree here,
-            (λ g. ap (varValOrSafe 𝓜 s′ v) (end-ref 𝓜 s′ v d y here) ∙ good-safe s′ v (cell 𝓜 s′ v y) (safe-kept v y (referred-seen v d y q (f .1)) (only-safe (cell 𝓜 s v y) (f .1) (sym (ap (varValOrSafe 𝓜 s v) (end-ref 𝓜 s v d y q)) ∙ g)))),
+            (λ g. ap (varValOrSafe 𝓜 s′ v) (end-ref 𝓜 s′ v d y here) ∙ good-safe s′ v (cell 𝓜 s′ v y) (safe-kept v y (referred-seen v d y q (f .1)) (good-ex 𝓜 s v (cell 𝓜 s v y) (f .1) (sym (ap (varValOrSafe 𝓜 s v) (end-ref 𝓜 s v d y q)) ∙ g)))),
           )
-        where
-          only-safe : (k : Kind) → isEx k ≡ true → varValOrSafe 𝓜 s v k ≡ true → safe 𝓜 s v k ≡ true
-          only-safe Free a b = absurd-bool a refl
-          only-safe Var a b = absurd-bool a refl
-          only-safe (Val n) a b = absurd-bool a refl
-          only-safe (Ref z) a b = absurd-bool a refl
-          only-safe (Ex o e n st w) a b = b
       go (Ex o e n st a) q t =
           let same = exported-seen v d x (ap isVar q) in
           let r = ex-after v d o e n st a q same in

@@ -11,7 +11,7 @@ use Rattle.tables.specs.declared.Kind.{Kind}
 use Rattle.tables.specs.declared.Kind.the-variants.{Ex}
 use Rattle.tables.specs.declared.Place.the-variants.{At}
 use Rattle.tables.specs.Machine.{Machine, Tables}
-use Rattle.tables.specs.Parts.{namedBy, isLive, isTainted}
+use Rattle.tables.specs.Parts.{isEx, namedBy, isLive, isTainted}
 use Rattle.tables.specs.Look.{cell, entry, end, endKind, safe}
 use Rattle.rules.specs.Sound.{varValOrSafe, follow}
 use Rattle.rules.specs.Facts.{CellFact, Facts}
@@ -20,7 +20,7 @@ use Rattle.rules.proofs.Derived.{named-place, follow-place}
 use Rattle.rules.specs.Change.{Change, next, Keeps, Ranked}
 use Rattle.rules.proofs.Stored.{Stored, stored-each}
 use Rattle.rules.proofs.Next.{entry-stored}
-use Rattle.rules.proofs.Kept.{live-kept, facts-kept}
+use Rattle.rules.proofs.Kept.{good-ex, live-kept, facts-kept}
 use Rattle.rules.proofs.Onward.{follow-live, follow-from, live-exported, after-live, end-kept, EndKept, as-before, newly-bound}
 
 -- a safe EX names an untainted entry of a lower worker
@@ -33,9 +33,7 @@ safe-ex 𝓜 s v o e k t q =
 
 -- an end that names an entry, and is a VAR, a VAL or safe, is safe
 pub good-named : (𝓜 : Machine) (s : Tables) (v o e : ℕ) (k : Kind) → varValOrSafe 𝓜 s v k ≡ true → namedBy k ≡ At o e → safe 𝓜 s v k ≡ true
-good-named 𝓜 s v o e k t q =
-    let x = named-ex o e k q in
-    ap (safe 𝓜 s v) (x .is) ∙ sym (ap (varValOrSafe 𝓜 s v) (x .is)) ∙ t
+good-named 𝓜 s v o e k t q = good-ex 𝓜 s v k (ap isEx (named-ex o e k q .is)) t
 
 -- an EX of a worker names an entry of another
 named-other : (𝓜 : Machine) (s : Tables) (F : Facts 𝓜 s) (v d o e : ℕ) → namedBy (cell 𝓜 s v d) ≡ At o e → o ≡ v → ⊥

@@ -9,12 +9,12 @@ use lib.ListN.{set}
 use Rattle.numbers.specs.Below.{bit}
 use Rattle.tables.specs.declared.Status.the-variants.{Idle}
 use Rattle.tables.specs.declared.Kind.{Kind}
-use Rattle.tables.specs.declared.Kind.the-variants.{Free, Var, Val, Ref, Ex}
+use Rattle.tables.specs.declared.Kind.the-variants.{Ref, Ex}
 use Rattle.tables.specs.declared.Holding.{Holding}
 use Rattle.tables.specs.declared.Message.{Message}
 use Rattle.tables.specs.declared.Place.the-variants.{At}
 use Rattle.tables.specs.Machine.{Machine, Tables}
-use Rattle.tables.specs.Parts.{isFree, isVar, isVal, isReading, isAsking, exNames, isLive, isTainted, entryNames, entryWeight, goesTo}
+use Rattle.tables.specs.Parts.{onEx, isFree, isVar, isVal, isReading, isAsking, exNames, isLive, isTainted, entryNames, entryWeight, goesTo}
 use Rattle.tables.specs.Look.{cell, entry, safe, exported, busy, booked, freeCells, message}
 use Rattle.rules.specs.Sound.{readsFor, asksFor, follow, cellHolds, messageHolds}
 use Rattle.rules.specs.Deliver.{cellOf}
@@ -45,11 +45,7 @@ next 𝓜 s h =
 
 -- what others see of a cell: not an EX's weight and marks
 abbrev pub seen : Kind → Kind
-seen Free = Free
-seen Var = Var
-seen (Val n) = Val n
-seen (Ref d) = Ref d
-seen (Ex o e n st a) = Ex o e 0 Idle false
+seen k = onEx k (λ o e n st a. Ex o e 0 Idle false) k
 
 -- the change is of parts of the tables, and of what stands there
 pub record Placed (𝓜 : Machine) (s : Tables) (h : Change) : Type 0 where
