@@ -80,16 +80,17 @@ module _ (𝓜 : Machine) (s : Tables) (h : Change) (F : Facts 𝓜 s) (K : Keep
   s′ : Tables
   s′ = next 𝓜 s h
 
-  C : Stored (cell 𝓜 s) (cell 𝓜 (next 𝓜 s h)) (h .w) (h .c) (h .k₀) (h .k)
-  C = cell-stored 𝓜 s h (F .sized) (K .placed)
+  -- the cells, and the entries, before and after
+  cells-changed : Stored (cell 𝓜 s) (cell 𝓜 (next 𝓜 s h)) (h .w) (h .c) (h .k₀) (h .k)
+  cells-changed = cell-stored 𝓜 s h (F .sized) (K .placed)
 
-  E : Stored (entry 𝓜 s) (entry 𝓜 (next 𝓜 s h)) (h .o) (h .e) (h .x₀) (h .x)
-  E = entry-stored 𝓜 s h (F .sized) (K .placed)
+  entries-changed : Stored (entry 𝓜 s) (entry 𝓜 (next 𝓜 s h)) (h .o) (h .e) (h .x₀) (h .x)
+  entries-changed = entry-stored 𝓜 s h (F .sized) (K .placed)
 
   -- ---- a busy cell that is no VAR looks the same
   pub seen-kept : (v d : ℕ) → busy 𝓜 s v d ≡ true → isVar (cell 𝓜 s v d) ≡ false → seen (cell 𝓜 (next 𝓜 s h) v d) ≡ seen (cell 𝓜 s v d)
   seen-kept =
-      stored-each C (λ v d x y. busy 𝓜 s v d ≡ true → isVar x ≡ false → seen y ≡ seen x) (K .busy-kept) (λ v d f b nv. refl)
+      stored-each cells-changed (λ v d x y. busy 𝓜 s v d ≡ true → isVar x ≡ false → seen y ≡ seen x) (K .busy-kept) (λ v d f b nv. refl)
 
   asking-seen : (v d : ℕ) → isAsking (cell 𝓜 s v d) ≡ true → seen (cell 𝓜 s′ v d) ≡ seen (cell 𝓜 s v d)
   unfolding s′
@@ -139,7 +140,7 @@ module _ (𝓜 : Machine) (s : Tables) (h : Change) (F : Facts 𝓜 s) (K : Keep
       let P = K .placed in
       omega (
         arith,
-        stored-number E entryWeight a b,
+        stored-number entries-changed entryWeight a b,
         F .weighed a b,
         cells-total 𝓜 s h z P (cellHolds 𝓜 s a b),
         slots-total 𝓜 s h z P (messageHolds 𝓜 s′ a b),
@@ -162,13 +163,13 @@ module _ (𝓜 : Machine) (s : Tables) (h : Change) (F : Facts 𝓜 s) (K : Keep
 
   cells′ : (v d : ℕ) → CellFact 𝓜 s′ v (cell 𝓜 s′ v d)
   unfolding s′
-  cells′ = stored-all C (CellFact 𝓜 s′) (λ v d. cell-kept v d (cell 𝓜 s v d) refl (F .cells v d)) (K .cell-ok)
+  cells′ = stored-all cells-changed (CellFact 𝓜 s′) (λ v d. cell-kept v d (cell 𝓜 s v d) refl (F .cells v d)) (K .cell-ok)
 
   -- ---- entries
   -- an entry that is live before and after keeps its cell and its taint
   pub live-kept : (a b : ℕ) → isLive (entry 𝓜 s a b) ≡ true → isLive (entry 𝓜 (next 𝓜 s h) a b) ≡ true → (cellOf (entry 𝓜 (next 𝓜 s h) a b) ≡ cellOf (entry 𝓜 s a b)) × (isTainted (entry 𝓜 (next 𝓜 s h) a b) ≡ isTainted (entry 𝓜 s a b))
   live-kept =
-      stored-each E (λ a b x y. isLive x ≡ true → isLive y ≡ true → (cellOf y ≡ cellOf x) × (isTainted y ≡ isTainted x)) (K .entry-kept)
+      stored-each entries-changed (λ a b x y. isLive x ≡ true → isLive y ≡ true → (cellOf y ≡ cellOf x) × (isTainted y ≡ isTainted x)) (K .entry-kept)
       (λ a b f l l′. (refl, refl))
 
   safe-is-ex : (t : Tables) (v : ℕ) (k : Kind) → safe 𝓜 t v k ≡ true → isEx k ≡ true
@@ -206,15 +207,15 @@ module _ (𝓜 : Machine) (s : Tables) (h : Change) (F : Facts 𝓜 s) (K : Keep
 
   pub var-after : (v d : ℕ) → exported 𝓜 s v d ≡ true → cell 𝓜 s v d ≡ Var → VarAfter v (cell 𝓜 (next 𝓜 s h) v d)
   var-after =
-      stored-each C (λ v d x y. exported 𝓜 s v d ≡ true → x ≡ Var → VarAfter v y)
+      stored-each cells-changed (λ v d x y. exported 𝓜 s v d ≡ true → x ≡ Var → VarAfter v y)
       (λ x q. becomes q (K .var-kept x (ap isVar q)))
       (λ v d f x q. var-or-val (ap (λ (k : Kind). isVar k || isVal k) q))
     where
       becomes : h .k₀ ≡ Var → VarBecomes 𝓜 s (h .w) (h .k) → VarAfter (h .w) (h .k)
       becomes q (stays t) = var-or-val t
       becomes q (bound y e t) =
-          let apart : h .w ≡ h .w → h .c ≡ y → ⊥ = λ a b. absurd-bool (safe-is-ex s (h .w) (cell 𝓜 s (h .w) y) t) (ap isEx (ap (cell 𝓜 s (h .w)) (sym b) ∙ C .was ∙ q)) in
-          ref-to-safe y e (C .there (h .w) y apart) t
+          let apart : h .w ≡ h .w → h .c ≡ y → ⊥ = λ a b. absurd-bool (safe-is-ex s (h .w) (cell 𝓜 s (h .w) y) t) (ap isEx (ap (cell 𝓜 s (h .w)) (sym b) ∙ cells-changed .was ∙ q)) in
+          ref-to-safe y e (cells-changed .there (h .w) y apart) t
 
   var-good : (v d : ℕ) → exported 𝓜 s v d ≡ true → cell 𝓜 s v d ≡ Var → (isFree (cell 𝓜 s′ v d) ≡ false) × (varValOrSafe 𝓜 s′ v (endKind 𝓜 s′ v d) ≡ true)
   unfolding s′
@@ -268,7 +269,7 @@ module _ (𝓜 : Machine) (s : Tables) (h : Change) (F : Facts 𝓜 s) (K : Keep
 
   entries′ : (v f : ℕ) → EntryFact 𝓜 s′ v (entry 𝓜 s′ v f)
   unfolding s′
-  entries′ = stored-all E (EntryFact 𝓜 s′) (λ v f. entry-kept′ v f (entry 𝓜 s v f) refl (F .entries v f)) (K .entry-ok)
+  entries′ = stored-all entries-changed (EntryFact 𝓜 s′) (λ v f. entry-kept′ v f (entry 𝓜 s v f) refl (F .entries v f)) (K .entry-ok)
 
   -- ---- messages
   message-kept : (j : ℕ) (m : Message) → message s j ≡ m → MessageFact 𝓜 s m → MessageFact 𝓜 s′ m
@@ -299,10 +300,10 @@ module _ (𝓜 : Machine) (s : Tables) (h : Change) (F : Facts 𝓜 s) (K : Keep
         cells = cells′;
         entries = entries′;
         messages = messages′;
-        ex-once = λ v c d a b. stored-once C (exNames a b) (λ v c d. F .ex-once v c d a b) (λ d. K .ex-new d a b) v c d;
-        entry-once = λ v e f d. stored-once E (entryNames d) (λ v e f. F .entry-once v e f d) (λ f. K .entry-new f d) v e f;
-        reads-one = λ v d. omega (arith, slots-total 𝓜 s h z P (λ y. bit (readsFor v d y)), stored-number C (λ y. bit (isReading y)) v d, F .reads-one v d, K .reads v d);
-        asks-one = λ v d. omega (arith, slots-total 𝓜 s h z P (λ y. bit (asksFor v d y)), stored-number C (λ y. bit (isAsking y)) v d, F .asks-one v d, K .asks v d);
+        ex-once = λ v c d a b. stored-once cells-changed (exNames a b) (λ v c d. F .ex-once v c d a b) (λ d. K .ex-new d a b) v c d;
+        entry-once = λ v e f d. stored-once entries-changed (entryNames d) (λ v e f. F .entry-once v e f d) (λ f. K .entry-new f d) v e f;
+        reads-one = λ v d. omega (arith, slots-total 𝓜 s h z P (λ y. bit (readsFor v d y)), stored-number cells-changed (λ y. bit (isReading y)) v d, F .reads-one v d, K .reads v d);
+        asks-one = λ v d. omega (arith, slots-total 𝓜 s h z P (λ y. bit (asksFor v d y)), stored-number cells-changed (λ y. bit (isAsking y)) v d, F .asks-one v d, K .asks v d);
         weighed = weighed′;
         room = λ v. omega (arith, slots-total 𝓜 s h z P (λ y. bit (goesTo v y)), free-count 𝓜 s h z P v, F .room v, K .room v);
       }

@@ -46,13 +46,13 @@ module _ (𝓜 : Machine) (s : Tables) (h : Change) (F : Facts 𝓜 s) (K : Keep
   F′ : Facts 𝓜 (next 𝓜 s h)
   F′ = facts-kept 𝓜 s h F K
 
-  E : Stored (entry 𝓜 s) (entry 𝓜 (next 𝓜 s h)) (h .o) (h .e) (h .x₀) (h .x)
-  E = entry-stored 𝓜 s h (F .sized) (K .placed)
+  entries-changed : Stored (entry 𝓜 s) (entry 𝓜 (next 𝓜 s h)) (h .o) (h .e) (h .x₀) (h .x)
+  entries-changed = entry-stored 𝓜 s h (F .sized) (K .placed)
 
   -- an entry that is live after the change was live before, or is the one that the change made
   pub was-or-new : (a b : ℕ) → isLive (entry 𝓜 (next 𝓜 s h) a b) ≡ true → (isLive (entry 𝓜 s a b) ≡ true) ⊎ ((h .o ≡ a) × (h .e ≡ b) × (isLive (h .x₀) ≡ false))
   was-or-new =
-      stored-each E (λ a b x y. isLive y ≡ true → (isLive x ≡ true) ⊎ ((h .o ≡ a) × (h .e ≡ b) × (isLive (h .x₀) ≡ false)))
+      stored-each entries-changed (λ a b x y. isLive y ≡ true → (isLive x ≡ true) ⊎ ((h .o ≡ a) × (h .e ≡ b) × (isLive (h .x₀) ≡ false)))
       (λ t. ⊎-elim inl (λ l. inr (refl, refl, l)) (or-else (isLive (h .x₀))))
       (λ a b f t. inl t)
 
@@ -87,7 +87,7 @@ module _ (𝓜 : Machine) (s : Tables) (h : Change) (F : Facts 𝓜 s) (K : Keep
       }
     where
       new-here : (a b : ℕ) → h .o ≡ a → h .e ≡ b → entry 𝓜 (next 𝓜 s h) a b ≡ h .x
-      new-here a b p q = ap₂ (entry 𝓜 (next 𝓜 s h)) (sym p) (sym q) ∙ E .here
+      new-here a b p q = ap₂ (entry 𝓜 (next 𝓜 s h)) (sym p) (sym q) ∙ entries-changed .here
 
       low : (a b : ℕ) → isLive (entry 𝓜 (next 𝓜 s h) a b) ≡ true → (isLive (entry 𝓜 s a b) ≡ true) ⊎ ((h .o ≡ a) × (h .e ≡ b) × (isLive (h .x₀) ≡ false)) → a ≤ r′ a b
       low a b t (inl l) = omega (arith, R .low a b l, agree a b l)
