@@ -5,7 +5,7 @@ use native.Mathlib.Numerals.{add-one}
 use native.Mathlib.Nat.{sub-self, sub-zero}
 use native.Mathlib.Decide.{ℕ-discrete}
 use mathlib.Core.Path.{_≡_, refl, sym, ap, ap₂, subst, _∙_}
-use mathlib.Core.Bool.{Bool, true, false, cond}
+use mathlib.Core.Bool.{Bool, true, false, _&&_, cond}
 use mathlib.Core.Logic.{_⊎_, inl, inr, ⊎-elim, _≢_}
 use borrow.Author.Tests.{ltb-false}
 use Rattle.numbers.specs.Below.{allBelow, sumBelow, bit, countBelow, lowestFrom, lowest, someBelow}
@@ -23,9 +23,9 @@ pub all-zero : (p : ℕ → Bool) → allBelow 0 p ≡ true
 unfolding allBelow
 all-zero p = refl
 
-pub all-step : (i : ℕ) (p : ℕ → Bool) → allBelow i p ≡ true → p i ≡ true → allBelow (i + 1) p ≡ true
+pub all-next : (i : ℕ) (p : ℕ → Bool) → allBelow (i + 1) p ≡ (allBelow i p && p i)
 unfolding allBelow
-all-step i p h k = rw add-one (and-i h k)
+all-next i p = rw add-one refl
 
 pub all-at : (n : ℕ) (p : ℕ → Bool) → allBelow n p ≡ true → (i : ℕ) → i < n → p i ≡ true
 unfolding allBelow

@@ -3,14 +3,14 @@ use Prim.Native.Nat.{ℕ, zero, suc, _+_, _≤_, _<_}
 use native.Mathlib.Omega.{arith}
 use native.Mathlib.Nat.{add-zero, zero-add}
 use mathlib.Core.Path.{_≡_, refl, sym, ap, _∙_}
-use mathlib.Core.Bool.{Bool, true, false}
+use mathlib.Core.Bool.{Bool, true}
 use mathlib.Core.List.{List, [], _∷_}
-use mathlib.Core.Logic.{⊎-elim, _≢_}
+use mathlib.Core.Logic.{_≢_}
 use lib.ListN.{length, getD, set, replicate}
-use Rattle.numbers.specs.Below.{allBelow, sumBelow}
+use Rattle.numbers.specs.Below.{sumBelow}
 use Rattle.numbers.specs.Lists.{eachFrom, each, total}
-use Rattle.numbers.specs.Tests.{and-l, and-r, and-i, absurd-bool, or-else}
-use Rattle.numbers.specs.BelowLaws.{all-at, sum-front}
+use Rattle.numbers.specs.Tests.{and-l, and-r, and-i}
+use Rattle.numbers.specs.BelowLaws.{sum-front}
 
 module _ {A : Type 0} where
   each-from-at : (p : ℕ → A → Bool) (i : ℕ) (l : List A) (d : A) → eachFrom p i l ≡ true → (k : ℕ) → k < length l → p (i + k) (getD l k d) ≡ true
@@ -34,14 +34,6 @@ module _ {A : Type 0} where
 
   pub each-of : (p : ℕ → A → Bool) (l : List A) (d : A) → ((k : ℕ) → k < length l → p k (getD l k d) ≡ true) → each p l ≡ true
   each-of p l d h = each-from-of p 0 l d (λ k q. rw zero-add (h k q))
-
-  -- ---- what a loop over a list cites: its end, and its early return
-  pub each-done : (p : ℕ → A → Bool) (l : List A) (d : A) (i : ℕ) → length l ≤ i → allBelow i (λ k. p k (getD l k d)) ≡ true → true ≡ each p l
-  each-done p l d i q h = sym (each-of p l d (λ k m. all-at i (λ j. p j (getD l j d)) h k (omega arith)))
-
-  pub each-early : (p : ℕ → A → Bool) (l : List A) (d : A) (i : ℕ) → i < length l → p i (getD l i d) ≡ false → false ≡ each p l
-  each-early p l d i q h =
-      ⊎-elim (λ t. absurd-bool (each-at p l d t i q) h) (λ f. sym f) (or-else (each p l))
 
   -- ---- sums
   pub total-below : (f : A → ℕ) (l : List A) (d : A) → total f l ≡ sumBelow (length l) (λ k. f (getD l k d))

@@ -2,13 +2,12 @@
 -- Assumes nothing.
 use Prim.Native.Nat.{ℕ, _+_, _≤_, _<_}
 use native.Mathlib.Omega.{arith}
-use native.Mathlib.Numerals.{add-one}
 use mathlib.Core.Path.{_≡_, refl, sym, ap₂, _∙_}
 use mathlib.Core.Bool.{Bool, true, false, _&&_}
 use mathlib.Core.List.{List}
 use lib.ListN.{length, getD}
 use Rattle.numbers.specs.Below.{allBelow}
-use Rattle.numbers.specs.BelowLaws.{all-zero, all-at, all-of}
+use Rattle.numbers.specs.BelowLaws.{all-zero, all-next, all-at, all-of}
 use Rattle.numbers.specs.Lists.{each}
 use Rattle.numbers.specs.ListLaws.{each-at, each-of}
 use Rattle.numbers.specs.Tests.{bool-eq}
@@ -18,17 +17,13 @@ pub record Passing (p : ℕ → Bool) (n i : ℕ) (b : Bool) : Type 0 where
   pub within : i ≤ n
   pub sofar : b ≡ allBelow i p
 
-all-next : (p : ℕ → Bool) (i : ℕ) → allBelow (i + 1) p ≡ (allBelow i p && p i)
-unfolding allBelow
-all-next p i = rw add-one refl
-
 pub pass-start : (p : ℕ → Bool) (n : ℕ) → Passing p n 0 true
 pass-start p n = record { within = omega arith; sofar = sym (all-zero p) }
 
 -- r is the answer of the code's test of the number i, c whether all passed with it
 pub pass-step : {p : ℕ → Bool} {n i : ℕ} {b r c : Bool} → Passing p n i b → i < n → r ≡ p i → c ≡ (b && r) → Passing p n (i + 1) c
 pass-step {p} {n} {i} s h e t =
-    record { within = omega arith; sofar = t ∙ ap₂ _&&_ (s .sofar) e ∙ sym (all-next p i) }
+    record { within = omega arith; sofar = t ∙ ap₂ _&&_ (s .sofar) e ∙ sym (all-next i p) }
 
 and-true : (b : Bool) → (b && true) ≡ b
 and-true true = refl
