@@ -1,2 +1,3 @@
--- The verdict that the calls carry along.
+-- The verdict that the calls carry along, and the lines that it is carried along.
+pub mod Lines
 pub mod Verdicts

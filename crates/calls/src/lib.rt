@@ -9,6 +9,9 @@ ghost use Rattle.rules.specs.Step.{step};
 mod refusals;
 mod verdict;
 
+use changes::deliveries::deliver_message;
+use changes::deliveries::read_end;
+use numbers::both;
 use numbers::either;
 use refusals::bind_refusals;
 use refusals::by_location_refusals;
@@ -32,127 +35,198 @@ use verdict::Verdict;
 pub fn start(p: u8) -> Reply
     ensures { λ r. ⌜ r ≡ reply (start eight p) ⌝ }
 {
-    let done = changes::replied(Outcome::Done(0), changes::all_free(p));
-    Verdict::Go
-        .refuse_if(either(p == 0, 8 < p), Refusal::WorkerCount)
-        .answer(changes::all_free(0), done)
+    let bad = either(p == 0, 8 < p);
+    if bad {
+        let refused = changes::unchanged(Outcome::Refused(Refusal::WorkerCount));
+        return changes::replied(changes::all_free(0), refused);
+    }
+    changes::replied(changes::all_free(p), changes::unchanged(Outcome::Done(0)))
 }
 
 // The lowest free cell becomes VAR.
 pub fn new(s: State, w: u8) -> Reply
     ensures { λ r. ⌜ r ≡ reply (new eight (tables s) w) ⌝ }
 {
-    let full = lookups::free_cells(s, w) <= lookups::booked(s, w);
-    let v = worker_refusals(s, w).refuse_if(full, Refusal::NoRoom);
-    let c = lookups::lowest_free_cell(s, w);
-    let done = changes::with_cell(Outcome::Done(c as u32), s, w, c, Kind::Var);
-    v.answer(s, done)
+    let cells = s.cells;
+    let slots = s.slots;
+    let full = lookups::free_cells(cells, w) <= lookups::booked(slots, w);
+    let v = worker_refusals(sound::is_sound(s), s.p, w).refuse_if(full, Refusal::NoRoom);
+    let c = lookups::lowest_free_cell(cells, w);
+    let done = changes::with_cell(Outcome::Done(c as u32), w, c, Kind::Var);
+    changes::replied(s, v.answer(done))
 }
 
 // VAR becomes VAL(n).
 pub fn set(s: State, w: u8, c: u8, n: u32) -> Reply
     ensures { λ r. ⌜ r ≡ reply (set eight (tables s) w c n) ⌝ }
 {
-    let k = lookups::cell_at(s, w, c);
-    let v = cell_refusals(s, w, c).refuse_if(!parts::is_var(k), Refusal::WrongKind);
-    let done = changes::with_cell(Outcome::Done(0), s, w, c, Kind::Val(n));
-    v.answer(s, done)
+    let cells = s.cells;
+    let k = lookups::cell_at(cells, w, c);
+    let v = cell_refusals(sound::is_sound(s), s.p, w, k).refuse_if(
+        !parts::is_var(k),
+        Refusal::WrongKind,
+    );
+    let done = changes::with_cell(Outcome::Done(0), w, c, Kind::Val(n));
+    changes::replied(s, v.answer(done))
 }
 
 // The VAR c becomes a REF to the end of x, an EX.
 pub fn bind(s: State, w: u8, c: u8, x: u8) -> Reply
     ensures { λ r. ⌜ r ≡ reply (bind eight (tables s) w c x) ⌝ }
 {
-    let v = bind_refusals(s, w, c, x);
-    let end = Kind::Ref(lookups::end_of(s, w, x));
-    v.answer(s, changes::with_cell(Outcome::Done(0), s, w, c, end))
+    let cells = s.cells;
+    let entries = s.entries;
+    let k = lookups::cell_at(cells, w, c);
+    let other = lookups::see(cells, w, x);
+    let ex = other.held;
+    let loose = both(
+        lookups::is_exported(entries, w, c),
+        !lookups::is_safe(entries, w, ex),
+    );
+    let v = bind_refusals(sound::is_sound(s), s.p, w, k, other, loose);
+    let done = changes::with_cell(Outcome::Done(0), w, c, Kind::Ref(other.end));
+    changes::replied(s, v.answer(done))
 }
 
 // The end of c is sent to worker `to`: by location, or an EX by reference.
 pub fn export(s: State, w: u8, c: u8, to: u8) -> Reply
     ensures { λ r. ⌜ r ≡ reply (export eight (tables s) w c to) ⌝ }
 {
-    let x = lookups::end_of(s, w, c);
-    let ex = parts::is_ex(lookups::end_kind(s, w, c));
-    let v = end_refusals(ex, send_refusals(s, w, c, to), s, w, x, to);
-    v.answer(s, changes::export_end(ex, s, w, x, to))
+    let cells = s.cells;
+    let entries = s.entries;
+    let slots = s.slots;
+    let look = lookups::see(cells, w, c);
+    let k = look.kind;
+    let x = look.end;
+    let end = look.held;
+    let ex = parts::is_ex(end);
+    let u = changes::use_entry(entries, w, x);
+    let room = lookups::room_at(cells, slots, to);
+    let first = send_refusals(sound::is_sound(s), s.p, w, to, k);
+    let v = end_refusals(ex, first, end, u, room);
+    let done = changes::export_end(ex, w, x, end, u, to, room.slot);
+    changes::replied(s, v.answer(done))
 }
 
 // The EX at the end of c is sent by location.
 pub fn indirect(s: State, w: u8, c: u8, to: u8) -> Reply
     ensures { λ r. ⌜ r ≡ reply (indirect eight (tables s) w c to) ⌝ }
 {
-    let x = lookups::end_of(s, w, c);
-    let k = lookups::end_kind(s, w, c);
-    let first = send_refusals(s, w, c, to).refuse_if(!parts::is_ex(k), Refusal::WrongKind);
-    let v = by_location_refusals(first, s, w, x, to);
-    let taint = !lookups::is_safe(s, w, k);
-    v.answer(s, changes::by_location(s, w, x, to, taint))
+    let cells = s.cells;
+    let entries = s.entries;
+    let slots = s.slots;
+    let look = lookups::see(cells, w, c);
+    let k = look.kind;
+    let x = look.end;
+    let end = look.held;
+    let u = changes::use_entry(entries, w, x);
+    let room = lookups::room_at(cells, slots, to);
+    let first = send_refusals(sound::is_sound(s), s.p, w, to, k).refuse_if(
+        !parts::is_ex(end),
+        Refusal::WrongKind,
+    );
+    let v = by_location_refusals(first, u, room);
+    let taint = !lookups::is_safe(entries, w, end);
+    let done = changes::by_location(u, w, x, to, taint, room.slot);
+    changes::replied(s, v.answer(done))
 }
 
 // The EX c is freed, and its whole weight sent.
 pub fn transfer(s: State, w: u8, c: u8, to: u8) -> Reply
     ensures { λ r. ⌜ r ≡ reply (transfer eight (tables s) w c to) ⌝ }
 {
-    let k = lookups::cell_at(s, w, c);
-    let first = send_refusals(s, w, c, to)
+    let cells = s.cells;
+    let entries = s.entries;
+    let slots = s.slots;
+    let k = lookups::cell_at(cells, w, c);
+    let busy = lookups::is_busy(cells, entries, w, c, k);
+    let room = lookups::room_at(cells, slots, to);
+    let first = send_refusals(sound::is_sound(s), s.p, w, to, k)
         .refuse_if(!parts::is_ex(k), Refusal::WrongKind)
-        .refuse_if(lookups::is_busy(s, w, c), Refusal::Busy);
-    let v = room_refusals(first, s, to);
-    v.answer(s, changes::transferred(s, w, c, to, k))
+        .refuse_if(busy, Refusal::Busy);
+    let v = room_refusals(first, room);
+    let done = changes::transferred(w, c, to, k, room.slot);
+    changes::replied(s, v.answer(done))
 }
 
 // The cell c is freed; an EX sends its whole weight back.
 pub fn drop(s: State, w: u8, c: u8) -> Reply
     ensures { λ r. ⌜ r ≡ reply (drop eight (tables s) w c) ⌝ }
 {
-    let k = lookups::cell_at(s, w, c);
+    let cells = s.cells;
+    let entries = s.entries;
+    let slots = s.slots;
+    let k = lookups::cell_at(cells, w, c);
+    let busy = lookups::is_busy(cells, entries, w, c, k);
+    let slot = lookups::lowest_empty_slot(slots);
     let ex = parts::is_ex(k);
-    let first = cell_refusals(s, w, c).refuse_if(lookups::is_busy(s, w, c), Refusal::Busy);
-    let v = slot_refusal(first, s, ex);
-    v.answer(s, changes::dropped(ex, s, w, c, k))
+    let first = cell_refusals(sound::is_sound(s), s.p, w, k).refuse_if(busy, Refusal::Busy);
+    let v = slot_refusal(first, ex, slot);
+    let done = changes::dropped(ex, w, c, k, slot);
+    changes::replied(s, v.answer(done))
 }
 
 // The value at the end of c, or a Read sent for it.
 pub fn read(s: State, w: u8, c: u8) -> Reply
     ensures { λ r. ⌜ r ≡ reply (read eight (tables s) w c) ⌝ }
 {
-    let x = lookups::end_of(s, w, c);
-    let k = lookups::end_kind(s, w, c);
-    let first = cell_refusals(s, w, c);
-    let v = slot_refusal(first, s, read_sends(k));
-    v.answer(s, changes::read_at(s, w, x, k))
+    let cells = s.cells;
+    let slots = s.slots;
+    let look = lookups::see(cells, w, c);
+    let k = look.kind;
+    let end = look.held;
+    let slot = lookups::lowest_empty_slot(slots);
+    let first = cell_refusals(sound::is_sound(s), s.p, w, k);
+    let v = slot_refusal(first, read_sends(end), slot);
+    let done = changes::read_at(w, look.end, end, slot);
+    changes::replied(s, v.answer(done))
 }
 
 // An Ask for more weight is sent from the EX at the end of c.
 pub fn ask(s: State, w: u8, c: u8) -> Reply
     ensures { λ r. ⌜ r ≡ reply (ask eight (tables s) w c) ⌝ }
 {
-    let x = lookups::end_of(s, w, c);
-    let k = lookups::end_kind(s, w, c);
-    let first = cell_refusals(s, w, c).refuse_if(!parts::is_ex(k), Refusal::WrongKind);
-    let v = slot_refusal(first, s, !parts::is_asking(k));
-    v.answer(s, changes::ask_at(s, w, x, k))
+    let cells = s.cells;
+    let slots = s.slots;
+    let look = lookups::see(cells, w, c);
+    let k = look.kind;
+    let end = look.held;
+    let slot = lookups::lowest_empty_slot(slots);
+    let first = cell_refusals(sound::is_sound(s), s.p, w, k).refuse_if(
+        !parts::is_ex(end),
+        Refusal::WrongKind,
+    );
+    let v = slot_refusal(first, !parts::is_asking(end), slot);
+    let done = changes::ask_at(w, look.end, end, slot);
+    changes::replied(s, v.answer(done))
 }
 
 // B: no more deliveries than this can succeed.
 pub fn bound(s: State) -> Reply
     ensures { λ r. ⌜ r ≡ reply (bound eight (tables s)) ⌝ }
 {
+    let entries = s.entries;
+    let slots = s.slots;
     let v = Verdict::Go.refuse_if(!sound::is_sound(s), Refusal::NotSound);
-    v.answer(s, changes::replied(Outcome::Done(changes::all_costs(s)), s))
+    let done = changes::unchanged(Outcome::Done(changes::all_costs(entries, slots)));
+    changes::replied(s, v.answer(done))
 }
 
 // The message in the slot is delivered.
 pub fn deliver(s: State, slot: u8) -> Reply
     ensures { λ r. ⌜ r ≡ reply (deliver eight (tables s) slot) ⌝ }
 {
-    let m = lookups::message_at(s, slot);
+    let cells = s.cells;
+    let entries = s.entries;
+    let slots = s.slots;
+    let m = lookups::message_at(slots, slot);
+    let end = read_end(cells, entries, m);
     let v = Verdict::Go
         .refuse_if(!sound::is_sound(s), Refusal::NotSound)
         .refuse_if(parts::is_empty(m), Refusal::NoMessage)
-        .refuse_if(!is_ready(s, m), Refusal::NotReady);
-    v.answer(s, changes::deliveries::deliver_message(s, slot, m))
+        .refuse_if(!is_ready(m, end), Refusal::NotReady);
+    let done = deliver_message(cells, entries, slot, m, end);
+    changes::replied(s, v.answer(done))
 }
 
 // Any of the twelve.

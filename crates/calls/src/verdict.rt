@@ -1,10 +1,10 @@
 // A verdict, carried along the refusals of a call in their order.
 ghost use mathlib.Core.Path.{_≡_};
 ghost use Rattle.calls.specs.Verdicts.{refuseIf, answered};
+use changes::Change;
+use changes::Effect;
 use tables::Outcome;
 use tables::Refusal;
-use tables::Reply;
-use tables::State;
 
 pub enum Verdict {
     Go,
@@ -22,14 +22,14 @@ impl Verdict {
         }
     }
 
-    // What is done, or the refusal with the state as it came.
-    pub fn answer(self, old: State, done: Reply) -> Reply
-        ensures { λ r. ⌜ r ≡ answered self old done ⌝ }
+    // What is done, or the refusal and nothing changed.
+    pub fn answer(self, done: Effect) -> Effect
+        ensures { λ r. ⌜ r ≡ answered self done ⌝ }
     {
         match self {
-            Verdict::Stop(why) => Reply {
+            Verdict::Stop(why) => Effect {
                 outcome: Outcome::Refused(why),
-                state: old,
+                change: Change::Nothing,
             },
             Verdict::Go => done,
         }

@@ -255,27 +255,30 @@ fn broken_point(s: State) {
 }
 
 fn ex_weight(s: State, w: u8, c: u8) {
+    let cells = s.cells;
     look(
         b"ex-weight",
         w,
         c,
-        parts::ex_weight(lookups::cell_at(s, w, c)),
+        parts::ex_weight(lookups::cell_at(cells, w, c)),
     );
 }
 
 // The weight of an entry, 0 where it is free.
 fn weight(s: State, w: u8, e: u8) {
+    let entries = s.entries;
     look(
         b"weight",
         w,
         e,
-        parts::entry_weight(lookups::entry_at(s, w, e)),
+        parts::entry_weight(lookups::entry_at(entries, w, e)),
     );
 }
 
 // 1 for a tainted entry, 0 for another.
 fn taint(s: State, w: u8, e: u8) {
-    let t = parts::is_tainted(lookups::entry_at(s, w, e));
+    let entries = s.entries;
+    let t = parts::is_tainted(lookups::entry_at(entries, w, e));
     look(b"taint", w, e, numbers::bit_of(t) as u32);
 }
 

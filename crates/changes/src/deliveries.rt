@@ -3,25 +3,27 @@ ghost use Prim.Native.Nat.{_≤_, _-_, min};
 ghost use mathlib.Core.Path.{_≡_};
 ghost use mathlib.Core.Bool.{true};
 ghost use Rattle.tables.specs.declared.Message.the-variants.{Reference};
-ghost use Rattle.tables.specs.Machine.{eight, tables};
+ghost use Rattle.tables.specs.Machine.{Tables, eight};
 ghost use Rattle.tables.specs.Parts.{exWeight, entryWeight};
-ghost use Rattle.rules.specs.Answers.{reply};
 ghost use Rattle.rules.specs.Sound.{sound};
 ghost use Rattle.rules.specs.Refusals.{entryEnd};
 ghost use Rattle.rules.specs.Deliver.{takenOff, cellOf, joined, known, supplied, grown, readOnEx, readOn, arrives, deliverMessage};
 ghost use Rattle.rules.specs.Deliver.{deliverHome, deliverAway, deliverRelease, deliverRead, deliverAnswer, deliverSupply, deliverAsk};
 ghost use Rattle.tables.specs.Parts.{messageWeight};
+ghost use Rattle.tables.specs.Look.{entry};
+ghost use Rattle.changes.specs.Effects.{made, readEnd};
+use super::Effect;
 use super::add_weights;
-use super::replied;
+use super::unchanged;
 use super::with_cell_and_message;
 use super::with_entry_and_message;
 use super::with_message;
+use tables::Cell;
+use tables::Entry;
 use tables::Holding;
 use tables::Kind;
 use tables::Message;
 use tables::Outcome;
-use tables::Reply;
-use tables::State;
 use tables::Status;
 
 // ---- what becomes of an entry and of a cell
@@ -172,12 +174,32 @@ fn grown(x: Holding) -> Holding
 }
 
 // The end of the cell that a live entry of worker o names.
-pub fn entry_end(s: State, o: u8, x: Holding) -> Kind
-    ensures { λ r. ⌜ r ≡ entryEnd eight (tables s) o x ⌝ }
+fn entry_end(cells: [Cell; 256], o: u8, x: Holding) -> Kind
+    ensures { λ r. ⌜ ((t : Tables) → t .cells ≡ cells → r ≡ entryEnd eight t o x) ⌝ }
 {
     match x {
         Holding::Unused => Kind::Free,
-        Holding::Live { cell, .. } => lookups::end_kind(s, o, cell),
+        Holding::Live { cell, .. } => {
+            let look = lookups::see(cells, o, cell);
+            look.held
+        }
+    }
+}
+
+// The end that a Read comes to; nothing for any other message.
+pub fn read_end(cells: [Cell; 256], entries: [Entry; 128], m: Message) -> Kind
+    ensures { λ r. ⌜ ((t : Tables) → t .cells ≡ cells → t .entries ≡ entries → r ≡ readEnd eight t m) ⌝ }
+{
+    match m {
+        Message::Empty => Kind::Free,
+        Message::Reference { .. } => Kind::Free,
+        Message::Release { .. } => Kind::Free,
+        Message::Read { owner, entry, .. } => {
+            entry_end(cells, owner, lookups::entry_at(entries, owner, entry))
+        }
+        Message::Answer { .. } => Kind::Free,
+        Message::Ask { .. } => Kind::Free,
+        Message::Supply { .. } => Kind::Free,
     }
 }
 
@@ -227,53 +249,62 @@ fn read_on(r: u8, c: u8, m: Message, k: Kind) -> Message
 // ---- each message, in the slot k
 
 // The cell of worker w where a Reference to the entry e of worker o arrives.
-fn arrives(s: State, w: u8, o: u8, e: u8) -> u8
-    ensures { λ r. ⌜ r ≡ arrives eight (tables s) w o e ⌝ }
+fn arrives(cells: [Cell; 256], w: u8, o: u8, e: u8) -> u8
+    ensures { λ r. ⌜ ((t : Tables) → t .cells ≡ cells → r ≡ arrives eight t w o e) ⌝ }
 {
-    let x = lookups::ex_naming(s, w, o, e);
+    let x = lookups::ex_naming(cells, w, o, e);
     if x < 32 {
         return x;
     }
-    lookups::lowest_free_cell(s, w)
+    lookups::lowest_free_cell(cells, w)
 }
 
 // A Reference at the owner.
-fn deliver_home(s: State, k: u8, o: u8, e: u8, w: u32) -> Reply
-    ensures { λ r. ⌜ r ≡ reply (deliverHome eight (tables s) k o e w) ⌝ }
+fn deliver_home(entries: [Entry; 128], k: u8, o: u8, e: u8, w: u32) -> Effect
+    ensures { λ r. ⌜ ((t : Tables) → t .entries ≡ entries → made eight t r ≡ deliverHome eight t k o e w) ⌝ }
 {
-    let x = lookups::entry_at(s, o, e);
+    let x = lookups::entry_at(entries, o, e);
     let value = Outcome::Done(cell_of(x) as u32);
     let left = taken_off(w, x);
-    with_entry_and_message(value, s, o, e, left, k, Message::Empty)
+    with_entry_and_message(value, o, e, left, k, Message::Empty)
 }
 
 // A Reference elsewhere.
-fn deliver_away(s: State, k: u8, to: u8, o: u8, e: u8, w: u32) -> Reply
-    ensures { λ r. ⌜ (sound eight (tables s) ≡ true → w ≤ 1048576 → r ≡ reply (deliverAway eight (tables s) k to o e w)) ⌝ }
+fn deliver_away(cells: [Cell; 256], k: u8, to: u8, o: u8, e: u8, w: u32) -> Effect
+    ensures { λ r. ⌜ ((t : Tables) → t .cells ≡ cells → sound eight t ≡ true → w ≤ 1048576 → made eight t r ≡ deliverAway eight t k to o e w) ⌝ }
 {
-    let c = arrives(s, to, o, e);
-    let ex = joined(o, e, w, lookups::cell_at(s, to, c));
-    with_cell_and_message(Outcome::Done(c as u32), s, to, c, ex, k, Message::Empty)
+    let c = arrives(cells, to, o, e);
+    let ex = joined(o, e, w, lookups::cell_at(cells, to, c));
+    with_cell_and_message(Outcome::Done(c as u32), to, c, ex, k, Message::Empty)
 }
 
-fn deliver_reference(s: State, k: u8, to: u8, o: u8, e: u8, w: u32) -> Reply
-    ensures { λ r. ⌜ (sound eight (tables s) ≡ true → w ≤ 1048576 → r ≡ reply (deliverMessage eight (tables s) k (Reference to o e w))) ⌝ }
+fn deliver_reference(
+    cells: [Cell; 256],
+    entries: [Entry; 128],
+    k: u8,
+    to: u8,
+    o: u8,
+    e: u8,
+    w: u32,
+) -> Effect
+    ensures { λ r. ⌜ ((t : Tables) → t .cells ≡ cells → t .entries ≡ entries → sound eight t ≡ true → w ≤ 1048576 → made eight t r ≡ deliverMessage eight t k (Reference to o e w)) ⌝ }
 {
     if to == o {
-        return deliver_home(s, k, o, e, w);
+        return deliver_home(entries, k, o, e, w);
     }
-    deliver_away(s, k, to, o, e, w)
+    deliver_away(cells, k, to, o, e, w)
 }
 
-fn deliver_release(s: State, k: u8, o: u8, e: u8, w: u32) -> Reply
-    ensures { λ r. ⌜ r ≡ reply (deliverRelease eight (tables s) k o e w) ⌝ }
+fn deliver_release(entries: [Entry; 128], k: u8, o: u8, e: u8, w: u32) -> Effect
+    ensures { λ r. ⌜ ((t : Tables) → t .entries ≡ entries → made eight t r ≡ deliverRelease eight t k o e w) ⌝ }
 {
-    let left = taken_off(w, lookups::entry_at(s, o, e));
-    with_entry_and_message(Outcome::Done(0), s, o, e, left, k, Message::Empty)
+    let left = taken_off(w, lookups::entry_at(entries, o, e));
+    with_entry_and_message(Outcome::Done(0), o, e, left, k, Message::Empty)
 }
 
-fn deliver_read(s: State, k: u8, r: u8, c: u8, o: u8, e: u8) -> Reply
-    ensures { λ q. ⌜ q ≡ reply (deliverRead eight (tables s) k r c o e) ⌝ }
+// A Read that comes to this end.
+fn deliver_read(k: u8, r: u8, c: u8, o: u8, e: u8, end: Kind) -> Effect
+    ensures { λ q. ⌜ ((t : Tables) → end ≡ entryEnd eight t o (entry eight t o e) → made eight t q ≡ deliverRead eight t k r c o e) ⌝ }
 {
     let m = Message::Read {
         reader: r,
@@ -281,70 +312,75 @@ fn deliver_read(s: State, k: u8, r: u8, c: u8, o: u8, e: u8) -> Reply
         owner: o,
         entry: e,
     };
-    let end = entry_end(s, o, lookups::entry_at(s, o, e));
-    with_message(Outcome::Done(0), s, k, read_on(r, c, m, end))
+    with_message(Outcome::Done(0), k, read_on(r, c, m, end))
 }
 
-fn deliver_answer(s: State, k: u8, r: u8, c: u8, v: u32) -> Reply
-    ensures { λ q. ⌜ q ≡ reply (deliverAnswer eight (tables s) k r c v) ⌝ }
+fn deliver_answer(cells: [Cell; 256], k: u8, r: u8, c: u8, v: u32) -> Effect
+    ensures { λ q. ⌜ ((t : Tables) → t .cells ≡ cells → made eight t q ≡ deliverAnswer eight t k r c v) ⌝ }
 {
-    let ex = known(v, lookups::cell_at(s, r, c));
-    with_cell_and_message(Outcome::Done(c as u32), s, r, c, ex, k, Message::Empty)
+    let ex = known(v, lookups::cell_at(cells, r, c));
+    with_cell_and_message(Outcome::Done(c as u32), r, c, ex, k, Message::Empty)
 }
 
-fn deliver_supply(s: State, k: u8, a: u8, c: u8, w: u32) -> Reply
-    ensures { λ r. ⌜ (sound eight (tables s) ≡ true → w ≤ 1048576 → r ≡ reply (deliverSupply eight (tables s) k a c w)) ⌝ }
+fn deliver_supply(cells: [Cell; 256], k: u8, a: u8, c: u8, w: u32) -> Effect
+    ensures { λ r. ⌜ ((t : Tables) → t .cells ≡ cells → sound eight t ≡ true → w ≤ 1048576 → made eight t r ≡ deliverSupply eight t k a c w) ⌝ }
 {
-    let ex = supplied(w, lookups::cell_at(s, a, c));
-    with_cell_and_message(Outcome::Done(c as u32), s, a, c, ex, k, Message::Empty)
+    let ex = supplied(w, lookups::cell_at(cells, a, c));
+    with_cell_and_message(Outcome::Done(c as u32), a, c, ex, k, Message::Empty)
 }
 
-fn deliver_ask(s: State, k: u8, a: u8, c: u8, o: u8, e: u8) -> Reply
-    ensures { λ r. ⌜ r ≡ reply (deliverAsk eight (tables s) k a c o e) ⌝ }
+fn deliver_ask(entries: [Entry; 128], k: u8, a: u8, c: u8, o: u8, e: u8) -> Effect
+    ensures { λ r. ⌜ ((t : Tables) → t .entries ≡ entries → made eight t r ≡ deliverAsk eight t k a c o e) ⌝ }
 {
-    let x = lookups::entry_at(s, o, e);
+    let x = lookups::entry_at(entries, o, e);
     let m = Message::Supply {
         asker: a,
         cell: c,
         weight: supply_from(parts::entry_weight(x)),
     };
-    with_entry_and_message(Outcome::Done(0), s, o, e, grown(x), k, m)
+    with_entry_and_message(Outcome::Done(0), o, e, grown(x), k, m)
 }
 
-// The message m in the slot k.
-pub fn deliver_message(s: State, k: u8, m: Message) -> Reply
-    ensures { λ r. ⌜ (sound eight (tables s) ≡ true → messageWeight m ≤ 1048576 → r ≡ reply (deliverMessage eight (tables s) k m)) ⌝ }
+// The message m in the slot k, which comes to this end if it is a Read.
+pub fn deliver_message(
+    cells: [Cell; 256],
+    entries: [Entry; 128],
+    k: u8,
+    m: Message,
+    end: Kind,
+) -> Effect
+    ensures { λ r. ⌜ ((t : Tables) → t .cells ≡ cells → t .entries ≡ entries → sound eight t ≡ true → messageWeight m ≤ 1048576 → end ≡ readEnd eight t m → made eight t r ≡ deliverMessage eight t k m) ⌝ }
 {
     match m {
-        Message::Empty => replied(Outcome::Done(0), s),
+        Message::Empty => unchanged(Outcome::Done(0)),
         Message::Reference {
             to,
             owner,
             entry,
             weight,
-        } => deliver_reference(s, k, to, owner, entry, weight),
+        } => deliver_reference(cells, entries, k, to, owner, entry, weight),
         Message::Release {
             owner,
             entry,
             weight,
-        } => deliver_release(s, k, owner, entry, weight),
+        } => deliver_release(entries, k, owner, entry, weight),
         Message::Read {
             reader,
             cell,
             owner,
             entry,
-        } => deliver_read(s, k, reader, cell, owner, entry),
-        Message::Answer { reader, cell, n } => deliver_answer(s, k, reader, cell, n),
+        } => deliver_read(k, reader, cell, owner, entry, end),
+        Message::Answer { reader, cell, n } => deliver_answer(cells, k, reader, cell, n),
         Message::Ask {
             asker,
             cell,
             owner,
             entry,
-        } => deliver_ask(s, k, asker, cell, owner, entry),
+        } => deliver_ask(entries, k, asker, cell, owner, entry),
         Message::Supply {
             asker,
             cell,
             weight,
-        } => deliver_supply(s, k, asker, cell, weight),
+        } => deliver_supply(cells, k, asker, cell, weight),
     }
 }

@@ -1,17 +1,18 @@
-// What each call does where it is not refused: its answer and next state.
+// What each call does where it is not refused: its answer and what it changes, from what is looked up; and the state then.
 ghost use Prim.Native.Nat.{_≤_, _+_};
 ghost use mathlib.Core.Path.{_≡_};
 ghost use mathlib.Core.Bool.{true, false, cond};
 ghost use Rattle.tables.specs.declared.Outcome.the-variants.{Done, Waiting};
 ghost use Rattle.tables.specs.declared.Kind.the-variants.{Free};
-ghost use Rattle.tables.specs.Machine.{eight, tables, state};
+ghost use Rattle.tables.specs.Machine.{Tables, eight, tables, state};
 ghost use Rattle.tables.specs.Parts.{onEx, entryWeight};
-ghost use Rattle.tables.specs.Look.{putCell, putEntry, putMessage};
+ghost use Rattle.tables.specs.Look.{cell, lowestEmptySlot, putCell, putEntry, putMessage};
 ghost use Rattle.rules.specs.Answers.{reply};
 ghost use Rattle.rules.specs.Sound.{sound};
 ghost use Rattle.rules.specs.Refusals.{entryToUse};
-ghost use Rattle.rules.specs.Calls.{allFree, closed, gains, byLocation, keeps, sends, byReference, sendsWhole, releases, sent, sentFor};
+ghost use Rattle.rules.specs.Calls.{allFree, closed, gains, byLocation, keeps, sends, byReference, sendsWhole, releases, sent};
 ghost use Rattle.rules.specs.Calls.{readEx, readAt, askEx, costs, B};
+ghost use Rattle.changes.specs.Effects.{used, changed, made};
 
 pub mod deliveries;
 
@@ -58,70 +59,188 @@ fn add_weights(a: u32, b: u32) -> u32
     a + b
 }
 
-// This outcome, and this next state.
-pub fn replied(outcome: Outcome, next: State) -> Reply
-    ensures { λ r. ⌜ r ≡ reply (record { outcome = outcome; after = tables next }) ⌝ }
+// ---- what is done, and the state then
+
+// What a call changes: nothing, a cell, a slot, or a slot and a cell or an entry.
+pub enum Change {
+    Nothing,
+    OfCell {
+        w: u8,
+        c: u8,
+        kind: Kind,
+    },
+    OfSlot {
+        slot: u8,
+        message: Message,
+    },
+    OfCellAndSlot {
+        w: u8,
+        c: u8,
+        kind: Kind,
+        slot: u8,
+        message: Message,
+    },
+    OfEntryAndSlot {
+        w: u8,
+        e: u8,
+        holding: Holding,
+        slot: u8,
+        message: Message,
+    },
+}
+
+// What a call does: its answer, and what it changes.
+pub struct Effect {
+    pub outcome: Outcome,
+    pub change: Change,
+}
+
+// This outcome, and nothing changed.
+pub fn unchanged(outcome: Outcome) -> Effect
+    ensures { λ r. ⌜ ((t : Tables) → made eight t r ≡ record { outcome = outcome; after = t }) ⌝ }
 {
+    Effect {
+        outcome: outcome,
+        change: Change::Nothing,
+    }
+}
+
+// This outcome, and k in the cell c of worker w.
+pub fn with_cell(outcome: Outcome, w: u8, c: u8, k: Kind) -> Effect
+    ensures { λ r. ⌜ ((t : Tables) → made eight t r ≡ record { outcome = outcome; after = putCell eight t w c k }) ⌝ }
+{
+    let change = Change::OfCell {
+        w: w,
+        c: c,
+        kind: k,
+    };
+    Effect {
+        outcome: outcome,
+        change: change,
+    }
+}
+
+// This outcome, and the message m in the slot.
+fn with_message(outcome: Outcome, slot: u8, m: Message) -> Effect
+    ensures { λ r. ⌜ ((t : Tables) → made eight t r ≡ record { outcome = outcome; after = putMessage t slot m }) ⌝ }
+{
+    let change = Change::OfSlot {
+        slot: slot,
+        message: m,
+    };
+    Effect {
+        outcome: outcome,
+        change: change,
+    }
+}
+
+// The same, and k in the cell c of worker w.
+fn with_cell_and_message(outcome: Outcome, w: u8, c: u8, k: Kind, slot: u8, m: Message) -> Effect
+    ensures { λ r. ⌜ ((t : Tables) → made eight t r ≡ record { outcome = outcome; after = putMessage (putCell eight t w c k) slot m }) ⌝ }
+{
+    let change = Change::OfCellAndSlot {
+        w: w,
+        c: c,
+        kind: k,
+        slot: slot,
+        message: m,
+    };
+    Effect {
+        outcome: outcome,
+        change: change,
+    }
+}
+
+// The same, and x in the entry e of worker w.
+fn with_entry_and_message(
+    outcome: Outcome,
+    w: u8,
+    e: u8,
+    x: Holding,
+    slot: u8,
+    m: Message,
+) -> Effect
+    ensures { λ r. ⌜ ((t : Tables) → made eight t r ≡ record { outcome = outcome; after = putMessage (putEntry eight t w e x) slot m }) ⌝ }
+{
+    let change = Change::OfEntryAndSlot {
+        w: w,
+        e: e,
+        holding: x,
+        slot: slot,
+        message: m,
+    };
+    Effect {
+        outcome: outcome,
+        change: change,
+    }
+}
+
+// The state with d changed in it.
+fn changed(s: State, d: Change) -> State
+    ensures { λ r. ⌜ r ≡ state (changed eight (tables s) d) ⌝ }
+{
+    match d {
+        Change::Nothing => s,
+        Change::OfCell { w, c, kind } => lookups::put_cell(s, w, c, kind),
+        Change::OfSlot { slot, message } => lookups::put_message(s, slot, message),
+        Change::OfCellAndSlot {
+            w,
+            c,
+            kind,
+            slot,
+            message,
+        } => lookups::put_message(lookups::put_cell(s, w, c, kind), slot, message),
+        Change::OfEntryAndSlot {
+            w,
+            e,
+            holding,
+            slot,
+            message,
+        } => lookups::put_message(lookups::put_entry(s, w, e, holding), slot, message),
+    }
+}
+
+// The reply to a call on s that does d.
+pub fn replied(s: State, d: Effect) -> Reply
+    ensures { λ r. ⌜ r ≡ reply (made eight (tables s) d) ⌝ }
+{
+    let outcome = d.outcome;
+    let change = d.change;
+    let next = changed(s, change);
     Reply {
         outcome: outcome,
         state: next,
     }
 }
 
-// This outcome, and s with k in the cell c of worker w.
-pub fn with_cell(outcome: Outcome, s: State, w: u8, c: u8, k: Kind) -> Reply
-    ensures { λ r. ⌜ r ≡ reply (record { outcome = outcome; after = putCell eight (tables s) w c k }) ⌝ }
-{
-    replied(outcome, lookups::put_cell(s, w, c, k))
-}
-
-// This outcome, and s with the message m in the slot.
-fn with_message(outcome: Outcome, s: State, slot: u8, m: Message) -> Reply
-    ensures { λ r. ⌜ r ≡ reply (record { outcome = outcome; after = putMessage (tables s) slot m }) ⌝ }
-{
-    replied(outcome, lookups::put_message(s, slot, m))
-}
-
-// The same, and k in the cell c of worker w.
-fn with_cell_and_message(
-    outcome: Outcome,
-    s: State,
-    w: u8,
-    c: u8,
-    k: Kind,
-    slot: u8,
-    m: Message,
-) -> Reply
-    ensures { λ r. ⌜ r ≡ reply (record { outcome = outcome; after = putMessage (putCell eight (tables s) w c k) slot m }) ⌝ }
-{
-    with_message(outcome, lookups::put_cell(s, w, c, k), slot, m)
-}
-
-// The same, and x in the entry e of worker w.
-fn with_entry_and_message(
-    outcome: Outcome,
-    s: State,
-    w: u8,
-    e: u8,
-    x: Holding,
-    slot: u8,
-    m: Message,
-) -> Reply
-    ensures { λ r. ⌜ r ≡ reply (record { outcome = outcome; after = putMessage (putEntry eight (tables s) w e x) slot m }) ⌝ }
-{
-    with_message(outcome, lookups::put_entry(s, w, e, x), slot, m)
-}
-
 // ---- export, indirect, transfer
 
-// The entry of the cell c, or the lowest free one.
-pub fn entry_to_use(s: State, w: u8, c: u8) -> u8
-    ensures { λ r. ⌜ r ≡ entryToUse eight (tables s) w c ⌝ }
+// An entry to use: its number, and what it holds.
+pub struct Used {
+    pub number: u8,
+    pub holding: Holding,
+}
+
+// The number of the entry of the cell c, or of the lowest free one.
+fn entry_to_use(entries: [Entry; 128], w: u8, c: u8) -> u8
+    ensures { λ r. ⌜ ((t : Tables) → t .entries ≡ entries → r ≡ entryToUse eight t w c) ⌝ }
 {
-    if lookups::is_exported(s, w, c) {
-        lookups::entry_of(s, w, c)
-    } else {
-        lookups::lowest_free_entry(s, w)
+    let own = lookups::entry_of(entries, w, c);
+    if own < 16 {
+        return own;
+    }
+    lookups::lowest_free_entry(entries, w)
+}
+
+// That entry.
+pub fn use_entry(entries: [Entry; 128], w: u8, c: u8) -> Used
+    ensures { λ r. ⌜ ((t : Tables) → t .entries ≡ entries → r ≡ used eight t w c) ⌝ }
+{
+    let e = entry_to_use(entries, w, c);
+    let x = lookups::entry_at(entries, w, e);
+    Used {
+        number: e,
+        holding: x,
     }
 }
 
@@ -147,20 +266,20 @@ fn gains(c: u8, taint: bool, x: Holding) -> Holding
     }
 }
 
-// By location, the cell x itself.
-pub fn by_location(s: State, w: u8, x: u8, to: u8, taint: bool) -> Reply
-    ensures { λ r. ⌜ (sound eight (tables s) ≡ true → r ≡ reply (byLocation eight (tables s) w x to taint)) ⌝ }
+// By location, the cell x itself, with the entry u and the lowest empty slot.
+pub fn by_location(u: Used, w: u8, x: u8, to: u8, taint: bool, slot: u8) -> Effect
+    ensures { λ r. ⌜ ((t : Tables) → sound eight t ≡ true → u ≡ used eight t w x → slot ≡ lowestEmptySlot eight t → made eight t r ≡ byLocation eight t w x to taint) ⌝ }
 {
-    let e = entry_to_use(s, w, x);
-    let gained = gains(x, taint, lookups::entry_at(s, w, e));
-    let slot = lookups::lowest_empty_slot(s);
+    let e = u.number;
+    let held = u.holding;
+    let gained = gains(x, taint, held);
     let m = Message::Reference {
         to: to,
         owner: w,
         entry: e,
         weight: 1024,
     };
-    with_entry_and_message(Outcome::Done(slot as u32), s, w, e, gained, slot, m)
+    with_entry_and_message(Outcome::Done(slot as u32), w, e, gained, slot, m)
 }
 
 // What an EX keeps and what it sends: half its weight, rounded down, is sent.
@@ -210,31 +329,22 @@ fn sends(to: u8, k: Kind) -> Message
     }
 }
 
-// By reference, the EX x.
-fn by_reference(s: State, w: u8, x: u8, to: u8) -> Reply
-    ensures { λ r. ⌜ r ≡ reply (byReference eight (tables s) w x to) ⌝ }
+// By reference, the EX x, which holds ex.
+fn by_reference(w: u8, x: u8, ex: Kind, to: u8, slot: u8) -> Effect
+    ensures { λ r. ⌜ ((t : Tables) → ex ≡ cell eight t w x → slot ≡ lowestEmptySlot eight t → made eight t r ≡ byReference eight t w x to) ⌝ }
 {
-    let ex = lookups::cell_at(s, w, x);
-    let slot = lookups::lowest_empty_slot(s);
-    with_cell_and_message(
-        Outcome::Done(slot as u32),
-        s,
-        w,
-        x,
-        keeps(ex),
-        slot,
-        sends(to, ex),
-    )
+    let done = Outcome::Done(slot as u32);
+    with_cell_and_message(done, w, x, keeps(ex), slot, sends(to, ex))
 }
 
-// The end x of an exported cell: by reference where it is an EX, and else by location.
-pub fn export_end(ex: bool, s: State, w: u8, x: u8, to: u8) -> Reply
-    ensures { λ r. ⌜ (sound eight (tables s) ≡ true → r ≡ reply (cond ex (byReference eight (tables s) w x to) (byLocation eight (tables s) w x to false))) ⌝ }
+// The end x of an exported cell, which holds k: by reference where it is an EX, and else by location.
+pub fn export_end(ex: bool, w: u8, x: u8, k: Kind, u: Used, to: u8, slot: u8) -> Effect
+    ensures { λ r. ⌜ ((t : Tables) → sound eight t ≡ true → k ≡ cell eight t w x → u ≡ used eight t w x → slot ≡ lowestEmptySlot eight t → made eight t r ≡ cond ex (byReference eight t w x to) (byLocation eight t w x to false)) ⌝ }
 {
     if ex {
-        by_reference(s, w, x, to)
+        by_reference(w, x, k, to, slot)
     } else {
-        by_location(s, w, x, to, false)
+        by_location(u, w, x, to, false, slot)
     }
 }
 
@@ -262,19 +372,11 @@ fn sends_whole(to: u8, k: Kind) -> Message
 }
 
 // The EX of the cell c, freed and sent.
-pub fn transferred(s: State, w: u8, c: u8, to: u8, ex: Kind) -> Reply
-    ensures { λ r. ⌜ r ≡ reply (sent eight (tables s) (putCell eight (tables s) w c Free) (sendsWhole to ex)) ⌝ }
+pub fn transferred(w: u8, c: u8, to: u8, ex: Kind, slot: u8) -> Effect
+    ensures { λ r. ⌜ ((t : Tables) → slot ≡ lowestEmptySlot eight t → made eight t r ≡ sent eight t (putCell eight t w c Free) (sendsWhole to ex)) ⌝ }
 {
-    let slot = lookups::lowest_empty_slot(s);
-    with_cell_and_message(
-        Outcome::Done(slot as u32),
-        s,
-        w,
-        c,
-        Kind::Free,
-        slot,
-        sends_whole(to, ex),
-    )
+    let done = Outcome::Done(slot as u32);
+    with_cell_and_message(done, w, c, Kind::Free, slot, sends_whole(to, ex))
 }
 
 // ---- drop
@@ -302,42 +404,26 @@ fn releases(k: Kind) -> Message
 }
 
 // The cell c, which held k, is freed: an EX sends its weight, any other kind nothing.
-pub fn dropped(ex: bool, s: State, w: u8, c: u8, k: Kind) -> Reply
-    ensures { λ r. ⌜ r ≡ reply (cond ex (sent eight (tables s) (putCell eight (tables s) w c Free) (releases k)) (record { outcome = Done 64; after = putCell eight (tables s) w c Free })) ⌝ }
+pub fn dropped(ex: bool, w: u8, c: u8, k: Kind, slot: u8) -> Effect
+    ensures { λ r. ⌜ ((t : Tables) → slot ≡ lowestEmptySlot eight t → made eight t r ≡ cond ex (sent eight t (putCell eight t w c Free) (releases k)) (record { outcome = Done 64; after = putCell eight t w c Free })) ⌝ }
 {
     if ex {
-        let slot = lookups::lowest_empty_slot(s);
-        with_cell_and_message(
-            Outcome::Done(slot as u32),
-            s,
-            w,
-            c,
-            Kind::Free,
-            slot,
-            releases(k),
-        )
+        let done = Outcome::Done(slot as u32);
+        with_cell_and_message(done, w, c, Kind::Free, slot, releases(k))
     } else {
-        with_cell(Outcome::Done(64), s, w, c, Kind::Free)
+        with_cell(Outcome::Done(64), w, c, Kind::Free)
     }
 }
 
 // ---- read and ask
 
-// The EX at x becomes k, and a message is put into the lowest empty slot.
-fn sent_for(s: State, w: u8, x: u8, k: Kind, m: Message) -> Reply
-    ensures { λ r. ⌜ r ≡ reply (sentFor eight (tables s) w x k m) ⌝ }
-{
-    let slot = lookups::lowest_empty_slot(s);
-    with_cell_and_message(Outcome::Sent(slot), s, w, x, k, slot, m)
-}
-
 // A read that comes to an EX, by its status.
-fn read_ex(s: State, w: u8, x: u8, o: u8, e: u8, n: u32, st: Status, a: bool) -> Reply
-    ensures { λ r. ⌜ r ≡ reply (readEx eight (tables s) w x o e n st a) ⌝ }
+fn read_ex(w: u8, x: u8, o: u8, e: u8, n: u32, st: Status, a: bool, slot: u8) -> Effect
+    ensures { λ r. ⌜ ((t : Tables) → slot ≡ lowestEmptySlot eight t → made eight t r ≡ readEx eight t w x o e n st a) ⌝ }
 {
     match st {
-        Status::Idle => sent_for(
-            s,
+        Status::Idle => with_cell_and_message(
+            Outcome::Sent(slot),
             w,
             x,
             Kind::Ex {
@@ -347,6 +433,7 @@ fn read_ex(s: State, w: u8, x: u8, o: u8, e: u8, n: u32, st: Status, a: bool) ->
                 status: Status::Reading,
                 asking: a,
             },
+            slot,
             Message::Read {
                 reader: w,
                 cell: x,
@@ -354,39 +441,39 @@ fn read_ex(s: State, w: u8, x: u8, o: u8, e: u8, n: u32, st: Status, a: bool) ->
                 entry: e,
             },
         ),
-        Status::Reading => replied(Outcome::Waiting, s),
-        Status::Known(v) => replied(Outcome::Done(v), s),
+        Status::Reading => unchanged(Outcome::Waiting),
+        Status::Known(v) => unchanged(Outcome::Done(v)),
     }
 }
 
 // A read that comes to the end x, which holds k.
-pub fn read_at(s: State, w: u8, x: u8, k: Kind) -> Reply
-    ensures { λ r. ⌜ r ≡ reply (readAt eight (tables s) w x k) ⌝ }
+pub fn read_at(w: u8, x: u8, k: Kind, slot: u8) -> Effect
+    ensures { λ r. ⌜ ((t : Tables) → slot ≡ lowestEmptySlot eight t → made eight t r ≡ readAt eight t w x k) ⌝ }
 {
     match k {
-        Kind::Free => replied(Outcome::Unbound, s),
-        Kind::Var => replied(Outcome::Unbound, s),
-        Kind::Val(n) => replied(Outcome::Done(n), s),
-        Kind::Ref(_) => replied(Outcome::Unbound, s),
+        Kind::Free => unchanged(Outcome::Unbound),
+        Kind::Var => unchanged(Outcome::Unbound),
+        Kind::Val(n) => unchanged(Outcome::Done(n)),
+        Kind::Ref(_) => unchanged(Outcome::Unbound),
         Kind::Ex {
             owner,
             entry,
             weight,
             status,
             asking,
-        } => read_ex(s, w, x, owner, entry, weight, status, asking),
+        } => read_ex(w, x, owner, entry, weight, status, asking, slot),
     }
 }
 
 // An ask that comes to an EX: asking already, or not.
-fn ask_ex(s: State, w: u8, x: u8, o: u8, e: u8, n: u32, st: Status, a: bool) -> Reply
-    ensures { λ r. ⌜ r ≡ reply (askEx eight (tables s) w x o e n st a) ⌝ }
+fn ask_ex(w: u8, x: u8, o: u8, e: u8, n: u32, st: Status, a: bool, slot: u8) -> Effect
+    ensures { λ r. ⌜ ((t : Tables) → slot ≡ lowestEmptySlot eight t → made eight t r ≡ askEx eight t w x o e n st a) ⌝ }
 {
     if a {
-        return replied(Outcome::Waiting, s);
+        return unchanged(Outcome::Waiting);
     }
-    sent_for(
-        s,
+    with_cell_and_message(
+        Outcome::Sent(slot),
         w,
         x,
         Kind::Ex {
@@ -396,6 +483,7 @@ fn ask_ex(s: State, w: u8, x: u8, o: u8, e: u8, n: u32, st: Status, a: bool) -> 
             status: st,
             asking: true,
         },
+        slot,
         Message::Ask {
             asker: w,
             cell: x,
@@ -406,21 +494,21 @@ fn ask_ex(s: State, w: u8, x: u8, o: u8, e: u8, n: u32, st: Status, a: bool) -> 
 }
 
 // An ask that comes to the end x, which holds k.
-pub fn ask_at(s: State, w: u8, x: u8, k: Kind) -> Reply
-    ensures { λ r. ⌜ r ≡ reply (onEx (record { outcome = Waiting; after = tables s }) (askEx eight (tables s) w x) k) ⌝ }
+pub fn ask_at(w: u8, x: u8, k: Kind, slot: u8) -> Effect
+    ensures { λ r. ⌜ ((t : Tables) → slot ≡ lowestEmptySlot eight t → made eight t r ≡ onEx (record { outcome = Waiting; after = t }) (askEx eight t w x) k) ⌝ }
 {
     match k {
-        Kind::Free => replied(Outcome::Waiting, s),
-        Kind::Var => replied(Outcome::Waiting, s),
-        Kind::Val(_) => replied(Outcome::Waiting, s),
-        Kind::Ref(_) => replied(Outcome::Waiting, s),
+        Kind::Free => unchanged(Outcome::Waiting),
+        Kind::Var => unchanged(Outcome::Waiting),
+        Kind::Val(_) => unchanged(Outcome::Waiting),
+        Kind::Ref(_) => unchanged(Outcome::Waiting),
         Kind::Ex {
             owner,
             entry,
             weight,
             status,
             asking,
-        } => ask_ex(s, w, x, owner, entry, weight, status, asking),
+        } => ask_ex(w, x, owner, entry, weight, status, asking, slot),
     }
 }
 
@@ -442,13 +530,13 @@ fn costs(live: u8, m: Message) -> u32
 }
 
 // B.
-pub fn all_costs(s: State) -> u32
-    ensures { λ r. ⌜ r ≡ B eight (tables s) ⌝ }
+pub fn all_costs(entries: [Entry; 128], slots: [Slot; 64]) -> u32
+    ensures { λ r. ⌜ ((t : Tables) → t .entries ≡ entries → t .slots ≡ slots → r ≡ B eight t) ⌝ }
 {
-    let live = lookups::live_entries(s);
+    let live = lookups::live_entries(entries);
     let mut n: u32 = 0;
     for k in 0..64usize {
-        let x = s.slots[k];
+        let x = slots[k];
         let m = x.message;
         n += costs(live, m);
     }

@@ -11,7 +11,6 @@ use Rattle.numbers.specs.Below.{sumBelow, bit, countBelow, lowestFrom, lowest}
 use Rattle.numbers.specs.BelowLaws.{sum-cong, lowest-none}
 use Rattle.numbers.specs.Lists.{total}
 use Rattle.numbers.specs.ListLaws.{total-below}
-use Rattle.numbers.specs.Loops.{Seeking, seek-start}
 use Rattle.tables.specs.declared.Kind.{Kind}
 use Rattle.tables.specs.declared.Kind.the-variants.{Free}
 use Rattle.tables.specs.declared.Holding.{Holding}
@@ -31,7 +30,7 @@ from-cong p q (suc n) i h =
     let later = from-cong p q n (suc i) (λ j l. h j (omega arith)) in
     rw (h i (omega arith), later)
 
-pub lowest-cong : (n : ℕ) (p q : ℕ → Bool) → ((j : ℕ) → j < n → p j ≡ q j) → lowest n p ≡ lowest n q
+lowest-cong : (n : ℕ) (p q : ℕ → Bool) → ((j : ℕ) → j < n → p j ≡ q j) → lowest n p ≡ lowest n q
 lowest-cong n p q h = from-cong p q n 0 (λ j l. h j (omega arith))
 
 -- where one answer is every number's, the search ends at once or at the bound
@@ -40,10 +39,6 @@ unfolding lowestFrom
 lowest-same zero p true h = refl
 lowest-same (suc n) p true h = rw (h 0)
 lowest-same n p false h = lowest-none n p h
-
--- a search by q starts, and the code tests by p
-pub seek-by : (p q : ℕ → Bool) (n : ℕ) → ((j : ℕ) → j < n → q j ≡ p j) → Seeking p n 0 (lowest n q)
-seek-by p q n h = rw (lowest-cong n q p h) (seek-start p n)
 
 -- ---- counts
 -- where one answer is every number's, a sum is a product
@@ -66,12 +61,12 @@ bit-small false h = omega arith
 
 -- ---- a worker's cells and entries, and the lists that hold them
 module _ (𝓜 : Machine) (s : Tables) (w : ℕ) where
-  -- inside the machine: a search starts, and a count ends
-  pub cells-seek : (q : Kind → Bool) → w < 𝓜 .workers → Seeking (λ c. q (kindAt (s .cells) (w * 𝓜 .cells + c))) (𝓜 .cells) 0 (lowest (𝓜 .cells) (λ c. q (cell 𝓜 s w c)))
-  cells-seek q h = seek-by _ _ (𝓜 .cells) (λ c l. ap q (cell-in 𝓜 s w c h l))
+  -- inside the machine the code searches and counts in the lists
+  pub cells-found : (q : Kind → Bool) → w < 𝓜 .workers → lowest (𝓜 .cells) (λ c. q (kindAt (s .cells) (w * 𝓜 .cells + c))) ≡ lowest (𝓜 .cells) (λ c. q (cell 𝓜 s w c))
+  cells-found q h = lowest-cong (𝓜 .cells) _ _ (λ c l. ap q (sym (cell-in 𝓜 s w c h l)))
 
-  pub entries-seek : (q : Holding → Bool) → w < 𝓜 .workers → Seeking (λ e. q (holdingAt (s .entries) (w * 𝓜 .entries + e))) (𝓜 .entries) 0 (lowest (𝓜 .entries) (λ e. q (entry 𝓜 s w e)))
-  entries-seek q h = seek-by _ _ (𝓜 .entries) (λ e l. ap q (entry-in 𝓜 s w e h l))
+  pub entries-found : (q : Holding → Bool) → w < 𝓜 .workers → lowest (𝓜 .entries) (λ e. q (holdingAt (s .entries) (w * 𝓜 .entries + e))) ≡ lowest (𝓜 .entries) (λ e. q (entry 𝓜 s w e))
+  entries-found q h = lowest-cong (𝓜 .entries) _ _ (λ e l. ap q (sym (entry-in 𝓜 s w e h l)))
 
   pub cells-count : (q : Kind → Bool) → w < 𝓜 .workers → countBelow (𝓜 .cells) (λ c. q (kindAt (s .cells) (w * 𝓜 .cells + c))) ≡ countBelow (𝓜 .cells) (λ c. q (cell 𝓜 s w c))
   cells-count q h = sum-cong (𝓜 .cells) _ _ (λ c l. ap (λ (k : Kind). bit (q k)) (sym (cell-in 𝓜 s w c h l)))

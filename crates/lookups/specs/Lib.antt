@@ -1,2 +1,3 @@
--- What the loops over a state's arrays say of a worker's cells and entries.
+-- What a search is for, and what the loops over the tables say of a worker's cells and entries.
+pub mod Sought
 pub mod Laws

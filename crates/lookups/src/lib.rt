@@ -1,11 +1,12 @@
-// What is looked up in a state, and the state with one part changed. Each function is total: out of range reads free, and a store
-// there changes nothing.
+// What is looked up in the tables, and the state with one part changed. Each function is total: out of range reads free, and a store
+// there changes nothing. A look-up takes the one table that it reads, since a state is copied wherever it is passed, and says what it
+// finds of any tables t that have this one.
 ghost use mathlib.Core.Path.{_≡_};
 ghost use Rattle.numbers.specs.Below.{lowest};
-ghost use Rattle.tables.specs.Machine.{eight, tables, state};
-ghost use Rattle.tables.specs.Parts.{refNames};
-ghost use Rattle.tables.specs.Look.{cell, entry, message, putCell, putEntry, putMessage, end, endKind, safe, entryOf, exported, referred, busy};
+ghost use Rattle.tables.specs.Machine.{Tables, eight, tables, state};
+ghost use Rattle.tables.specs.Look.{cell, entry, message, putCell, putEntry, putMessage, safe, entryOf, exported, referred, busy};
 ghost use Rattle.tables.specs.Look.{lowestFreeCell, lowestFreeEntry, lowestEmptySlot, exNaming, freeCells, booked, liveEntries};
+ghost use Rattle.lookups.specs.Sought.{isSought, isSoughtEntry, seen, room};
 use numbers::bit_of;
 use numbers::both;
 use numbers::either;
@@ -20,8 +21,8 @@ use tables::State;
 // ---- what stands in the tables
 
 // What the cell c of worker w holds.
-pub fn cell_at(s: State, w: u8, c: u8) -> Kind
-    ensures { λ r. ⌜ r ≡ cell eight (tables s) w c ⌝ }
+pub fn cell_at(cells: [Cell; 256], w: u8, c: u8) -> Kind
+    ensures { λ r. ⌜ ((t : Tables) → t .cells ≡ cells → r ≡ cell eight t w c) ⌝ }
 {
     if 8 <= w {
         return Kind::Free;
@@ -29,13 +30,13 @@ pub fn cell_at(s: State, w: u8, c: u8) -> Kind
     if 32 <= c {
         return Kind::Free;
     }
-    let x = s.cells[w as usize * 32 + c as usize];
+    let x = cells[w as usize * 32 + c as usize];
     x.kind
 }
 
 // What the entry e of worker w holds.
-pub fn entry_at(s: State, w: u8, e: u8) -> Holding
-    ensures { λ r. ⌜ r ≡ entry eight (tables s) w e ⌝ }
+pub fn entry_at(entries: [Entry; 128], w: u8, e: u8) -> Holding
+    ensures { λ r. ⌜ ((t : Tables) → t .entries ≡ entries → r ≡ entry eight t w e) ⌝ }
 {
     if 8 <= w {
         return Holding::Unused;
@@ -43,18 +44,18 @@ pub fn entry_at(s: State, w: u8, e: u8) -> Holding
     if 16 <= e {
         return Holding::Unused;
     }
-    let x = s.entries[w as usize * 16 + e as usize];
+    let x = entries[w as usize * 16 + e as usize];
     x.holding
 }
 
 // What the slot k holds.
-pub fn message_at(s: State, k: u8) -> Message
-    ensures { λ r. ⌜ r ≡ message (tables s) k ⌝ }
+pub fn message_at(slots: [Slot; 64], k: u8) -> Message
+    ensures { λ r. ⌜ ((t : Tables) → t .slots ≡ slots → r ≡ message t k) ⌝ }
 {
     if 64 <= k {
         return Message::Empty;
     }
-    let x = s.slots[k as usize];
+    let x = slots[k as usize];
     x.message
 }
 
@@ -104,23 +105,30 @@ pub fn put_message(s: State, k: u8, m: Message) -> State
 
 // ---- a cell's end, and a safe EX
 
-// The number of the end of the cell c of worker w.
-pub fn end_of(s: State, w: u8, c: u8) -> u8
-    ensures { λ r. ⌜ r ≡ end eight (tables s) w c ⌝ }
-{
-    parts::end_from(cell_at(s, w, c), c)
+// What a call looks at in a cell: what it holds, the number of its end, and what the end holds.
+pub struct Seen {
+    pub kind: Kind,
+    pub end: u8,
+    pub held: Kind,
 }
 
-// What the end of the cell c of worker w holds.
-pub fn end_kind(s: State, w: u8, c: u8) -> Kind
-    ensures { λ r. ⌜ r ≡ endKind eight (tables s) w c ⌝ }
+// The cell c of worker w, and its end.
+pub fn see(cells: [Cell; 256], w: u8, c: u8) -> Seen
+    ensures { λ r. ⌜ ((t : Tables) → t .cells ≡ cells → r ≡ seen eight t w c) ⌝ }
 {
-    cell_at(s, w, end_of(s, w, c))
+    let k = cell_at(cells, w, c);
+    let end = parts::end_from(k, c);
+    let held = cell_at(cells, w, end);
+    Seen {
+        kind: k,
+        end: end,
+        held: held,
+    }
 }
 
 // k is an EX that is safe at worker w.
-pub fn is_safe(s: State, w: u8, k: Kind) -> bool
-    ensures { λ r. ⌜ r ≡ safe eight (tables s) w k ⌝ }
+pub fn is_safe(entries: [Entry; 128], w: u8, k: Kind) -> bool
+    ensures { λ r. ⌜ ((t : Tables) → t .entries ≡ entries → r ≡ safe eight t w k) ⌝ }
 {
     match k {
         Kind::Free => false,
@@ -128,129 +136,150 @@ pub fn is_safe(s: State, w: u8, k: Kind) -> bool
         Kind::Val(_) => false,
         Kind::Ref(_) => false,
         Kind::Ex { owner, entry, .. } => {
-            both(owner < w, !parts::is_tainted(entry_at(s, owner, entry)))
+            both(
+                owner < w,
+                !parts::is_tainted(entry_at(entries, owner, entry)),
+            )
         }
     }
 }
 
-// ---- what names a cell or an entry
+// ---- the lowest cell that is sought
 
-// The live entry of worker w that names its cell c, 16 where there is none.
-pub fn entry_of(s: State, w: u8, c: u8) -> u8
-    ensures { λ r. ⌜ r ≡ entryOf eight (tables s) w c ⌝ }
+// What is sought among a worker's cells: a free one, the REF to a cell, the EX of an entry.
+pub enum SoughtCell {
+    FreeCell,
+    RefTo(u8),
+    ExOf { owner: u8, entry: u8 },
+}
+
+// A cell that holds k is what is sought.
+fn is_sought(q: SoughtCell, k: Kind) -> bool
+    ensures { λ r. ⌜ r ≡ isSought q k ⌝ }
+{
+    match q {
+        SoughtCell::FreeCell => parts::is_free(k),
+        SoughtCell::RefTo(c) => parts::ref_names(c, k),
+        SoughtCell::ExOf { owner, entry } => parts::ex_names(owner, entry, k),
+    }
+}
+
+// The lowest such cell of worker w, 32 where there is none.
+fn lowest_cell(cells: [Cell; 256], w: u8, q: SoughtCell) -> u8
+    ensures { λ r. ⌜ ((t : Tables) → t .cells ≡ cells → r ≡ lowest 32 (λ c. isSought q (cell eight t w c))) ⌝ }
 {
     if 8 <= w {
-        return 16;
-    }
-    for e in 0..16u8 {
-        let x = s.entries[w as usize * 16 + e as usize];
-        let holding = x.holding;
-        if parts::entry_names(c, holding) {
-            return e;
+        if is_sought(q, Kind::Free) {
+            return 0;
         }
-    }
-    16
-}
-
-// A live entry of worker w names its cell c.
-pub fn is_exported(s: State, w: u8, c: u8) -> bool
-    ensures { λ r. ⌜ r ≡ exported eight (tables s) w c ⌝ }
-{
-    entry_of(s, w, c) < 16
-}
-
-// The REF of worker w that names its cell c, 32 where there is none.
-fn ref_naming(s: State, w: u8, c: u8) -> u8
-    ensures { λ r. ⌜ r ≡ lowest 32 (λ d. refNames c (cell eight (tables s) w d)) ⌝ }
-{
-    if 8 <= w {
         return 32;
     }
     for d in 0..32u8 {
-        let x = s.cells[w as usize * 32 + d as usize];
+        let x = cells[w as usize * 32 + d as usize];
         let k = x.kind;
-        if parts::ref_names(c, k) {
+        if is_sought(q, k) {
             return d;
         }
     }
     32
 }
 
-// A REF of worker w names its cell c.
-pub fn is_referred(s: State, w: u8, c: u8) -> bool
-    ensures { λ r. ⌜ r ≡ referred eight (tables s) w c ⌝ }
+// The lowest free cell of worker w, 32 where there is none.
+pub fn lowest_free_cell(cells: [Cell; 256], w: u8) -> u8
+    ensures { λ r. ⌜ ((t : Tables) → t .cells ≡ cells → r ≡ lowestFreeCell eight t w) ⌝ }
 {
-    ref_naming(s, w, c) < 32
+    lowest_cell(cells, w, SoughtCell::FreeCell)
 }
 
-// A live entry or a REF names the cell c of worker w, or it is an EX that is reading or asking.
-pub fn is_busy(s: State, w: u8, c: u8) -> bool
-    ensures { λ r. ⌜ r ≡ busy eight (tables s) w c ⌝ }
+// A REF of worker w names its cell c.
+fn is_referred(cells: [Cell; 256], w: u8, c: u8) -> bool
+    ensures { λ r. ⌜ ((t : Tables) → t .cells ≡ cells → r ≡ referred eight t w c) ⌝ }
 {
-    let k = cell_at(s, w, c);
-    let named = either(is_exported(s, w, c), is_referred(s, w, c));
-    either(either(named, parts::is_reading(k)), parts::is_asking(k))
+    lowest_cell(cells, w, SoughtCell::RefTo(c)) < 32
 }
 
 // The EX of worker w that names the entry e of worker o, 32 where there is none.
-pub fn ex_naming(s: State, w: u8, o: u8, e: u8) -> u8
-    ensures { λ r. ⌜ r ≡ exNaming eight (tables s) w o e ⌝ }
+pub fn ex_naming(cells: [Cell; 256], w: u8, o: u8, e: u8) -> u8
+    ensures { λ r. ⌜ ((t : Tables) → t .cells ≡ cells → r ≡ exNaming eight t w o e) ⌝ }
 {
-    if 8 <= w {
-        return 32;
-    }
-    for c in 0..32u8 {
-        let x = s.cells[w as usize * 32 + c as usize];
-        let k = x.kind;
-        if parts::ex_names(o, e, k) {
-            return c;
-        }
-    }
-    32
+    lowest_cell(cells, w, SoughtCell::ExOf { owner: o, entry: e })
 }
 
-// ---- lowest free
+// ---- the lowest entry that is sought
 
-// The lowest free cell of worker w, 32 where there is none.
-pub fn lowest_free_cell(s: State, w: u8) -> u8
-    ensures { λ r. ⌜ r ≡ lowestFreeCell eight (tables s) w ⌝ }
-{
-    if 8 <= w {
-        return 0;
-    }
-    for c in 0..32u8 {
-        let x = s.cells[w as usize * 32 + c as usize];
-        let k = x.kind;
-        if parts::is_free(k) {
-            return c;
-        }
-    }
-    32
+// What is sought among a worker's entries: a free one, the live one of a cell.
+pub enum SoughtEntry {
+    FreeEntry,
+    EntryOf(u8),
 }
 
-// The lowest free entry of worker w, 16 where there is none.
-pub fn lowest_free_entry(s: State, w: u8) -> u8
-    ensures { λ r. ⌜ r ≡ lowestFreeEntry eight (tables s) w ⌝ }
+// An entry that holds x is what is sought.
+fn is_sought_entry(q: SoughtEntry, x: Holding) -> bool
+    ensures { λ r. ⌜ r ≡ isSoughtEntry q x ⌝ }
+{
+    match q {
+        SoughtEntry::FreeEntry => parts::is_unused(x),
+        SoughtEntry::EntryOf(c) => parts::entry_names(c, x),
+    }
+}
+
+// The lowest such entry of worker w, 16 where there is none.
+fn lowest_entry(entries: [Entry; 128], w: u8, q: SoughtEntry) -> u8
+    ensures { λ r. ⌜ ((t : Tables) → t .entries ≡ entries → r ≡ lowest 16 (λ e. isSoughtEntry q (entry eight t w e))) ⌝ }
 {
     if 8 <= w {
-        return 0;
+        if is_sought_entry(q, Holding::Unused) {
+            return 0;
+        }
+        return 16;
     }
     for e in 0..16u8 {
-        let x = s.entries[w as usize * 16 + e as usize];
+        let x = entries[w as usize * 16 + e as usize];
         let holding = x.holding;
-        if parts::is_unused(holding) {
+        if is_sought_entry(q, holding) {
             return e;
         }
     }
     16
 }
 
+// The lowest free entry of worker w, 16 where there is none.
+pub fn lowest_free_entry(entries: [Entry; 128], w: u8) -> u8
+    ensures { λ r. ⌜ ((t : Tables) → t .entries ≡ entries → r ≡ lowestFreeEntry eight t w) ⌝ }
+{
+    lowest_entry(entries, w, SoughtEntry::FreeEntry)
+}
+
+// The live entry of worker w that names its cell c, 16 where there is none.
+pub fn entry_of(entries: [Entry; 128], w: u8, c: u8) -> u8
+    ensures { λ r. ⌜ ((t : Tables) → t .entries ≡ entries → r ≡ entryOf eight t w c) ⌝ }
+{
+    lowest_entry(entries, w, SoughtEntry::EntryOf(c))
+}
+
+// A live entry of worker w names its cell c.
+pub fn is_exported(entries: [Entry; 128], w: u8, c: u8) -> bool
+    ensures { λ r. ⌜ ((t : Tables) → t .entries ≡ entries → r ≡ exported eight t w c) ⌝ }
+{
+    entry_of(entries, w, c) < 16
+}
+
+// ---- busy, and an empty slot
+
+// A live entry or a REF names the cell c of worker w, which holds k, or k is an EX that is reading or asking.
+pub fn is_busy(cells: [Cell; 256], entries: [Entry; 128], w: u8, c: u8, k: Kind) -> bool
+    ensures { λ r. ⌜ ((t : Tables) → t .cells ≡ cells → t .entries ≡ entries → k ≡ cell eight t w c → r ≡ busy eight t w c) ⌝ }
+{
+    let named = either(is_exported(entries, w, c), is_referred(cells, w, c));
+    either(either(named, parts::is_reading(k)), parts::is_asking(k))
+}
+
 // The lowest empty slot, 64 where there is none.
-pub fn lowest_empty_slot(s: State) -> u8
-    ensures { λ r. ⌜ r ≡ lowestEmptySlot eight (tables s) ⌝ }
+pub fn lowest_empty_slot(slots: [Slot; 64]) -> u8
+    ensures { λ r. ⌜ ((t : Tables) → t .slots ≡ slots → r ≡ lowestEmptySlot eight t) ⌝ }
 {
     for k in 0..64u8 {
-        let x = s.slots[k as usize];
+        let x = slots[k as usize];
         let m = x.message;
         if parts::is_empty(m) {
             return k;
@@ -262,15 +291,15 @@ pub fn lowest_empty_slot(s: State) -> u8
 // ---- counts
 
 // How many cells of worker w are free.
-pub fn free_cells(s: State, w: u8) -> u8
-    ensures { λ r. ⌜ r ≡ freeCells eight (tables s) w ⌝ }
+pub fn free_cells(cells: [Cell; 256], w: u8) -> u8
+    ensures { λ r. ⌜ ((t : Tables) → t .cells ≡ cells → r ≡ freeCells eight t w) ⌝ }
 {
     if 8 <= w {
         return 32;
     }
     let mut n: u8 = 0;
     for c in 0..32u8 {
-        let x = s.cells[w as usize * 32 + c as usize];
+        let x = cells[w as usize * 32 + c as usize];
         let k = x.kind;
         n += bit_of(parts::is_free(k));
     }
@@ -278,12 +307,12 @@ pub fn free_cells(s: State, w: u8) -> u8
 }
 
 // How many Reference messages go to worker w.
-pub fn booked(s: State, w: u8) -> u8
-    ensures { λ r. ⌜ r ≡ booked (tables s) w ⌝ }
+pub fn booked(slots: [Slot; 64], w: u8) -> u8
+    ensures { λ r. ⌜ ((t : Tables) → t .slots ≡ slots → r ≡ booked t w) ⌝ }
 {
     let mut n: u8 = 0;
     for k in 0..64usize {
-        let x = s.slots[k];
+        let x = slots[k];
         let m = x.message;
         n += bit_of(parts::goes_to(w, m));
     }
@@ -291,14 +320,37 @@ pub fn booked(s: State, w: u8) -> u8
 }
 
 // How many entries are live.
-pub fn live_entries(s: State) -> u8
-    ensures { λ r. ⌜ r ≡ liveEntries (tables s) ⌝ }
+pub fn live_entries(entries: [Entry; 128]) -> u8
+    ensures { λ r. ⌜ ((t : Tables) → t .entries ≡ entries → r ≡ liveEntries t) ⌝ }
 {
     let mut n: u8 = 0;
     for i in 0..128usize {
-        let x = s.entries[i];
+        let x = entries[i];
         let holding = x.holding;
         n += bit_of(parts::is_live(holding));
     }
     n
+}
+
+// ---- what is looked at where a message is sent
+
+// Free cells and References booked at the receiver, and the lowest empty slot.
+pub struct Room {
+    pub free: u8,
+    pub booked: u8,
+    pub slot: u8,
+}
+
+// The room for a Reference to worker w.
+pub fn room_at(cells: [Cell; 256], slots: [Slot; 64], w: u8) -> Room
+    ensures { λ r. ⌜ ((t : Tables) → t .cells ≡ cells → t .slots ≡ slots → r ≡ room eight t w) ⌝ }
+{
+    let free = free_cells(cells, w);
+    let going = booked(slots, w);
+    let slot = lowest_empty_slot(slots);
+    Room {
+        free: free,
+        booked: going,
+        slot: slot,
+    }
 }

@@ -1,4 +1,6 @@
 -- `ask` meets its contract: its refusals in order, and what it does. Assumes nothing.
+use mathlib.Core.Path.{refl}
+use Rattle.tables.specs.Machine.{eight, tables}
 use Rattle.rules.specs.Calls.{ask}
 use Rattle.calls.specs.Verdicts.{along, decides}
 use Rattle.calls.proofs.ask.Statement.{statement}
@@ -18,7 +20,11 @@ ask-spec =
     (λ c κs. tt)
     (λ c κs. tt)
     (λ c κs. tt)
+    (λ c κs. tt)
+    (λ c κs. tt)
     (λ c.
     let d = c .before .before .before .before in
     let e = d .before .before .before .before in
-    rw (c .answer .ensures) (decides _ _ _ _ (rw (c .before .before .slot-refusal .ensures, c .before .before .before .is-asking .ensures, d .refuse-if .ensures, d .before .is-ex .ensures, d .before .before .cell-refusals .ensures, d .before .before .before .end-kind .ensures)) (λ h. rw (c .before .ask-at .ensures, d .before .before .before .end-kind .ensures, e .end-of .ensures)))))
+    let f = e .before .before .before .before in
+    let t = tables (f .before .args .s) in
+    rw (c .replied .ensures, c .before .answer .ensures) (decides eight t _ _ _ _ (rw (c .before .before .before .slot-refusal .ensures, d .is-asking .ensures, d .before .refuse-if .ensures, d .before .before .is-ex .ensures, d .before .before .before .cell-refusals .ensures, e .is-sound .ensures, e .before .lowest-empty-slot .ensures t refl, e .before .before .see .ensures t refl)) (λ h. rw (c .before .before .ask-at .ensures t (e .before .lowest-empty-slot .ensures t refl), e .before .before .see .ensures t refl)))))

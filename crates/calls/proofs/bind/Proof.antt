@@ -1,4 +1,6 @@
 -- `bind` meets its contract: its refusals in order, and what it does. Assumes nothing.
+use mathlib.Core.Path.{refl}
+use Rattle.tables.specs.Machine.{eight, tables}
 use Rattle.rules.specs.Calls.{bind}
 use Rattle.calls.specs.Verdicts.{along, decides}
 use Rattle.calls.proofs.bind.Statement.{statement}
@@ -13,5 +15,15 @@ bind-spec =
     (λ c κs. tt)
     (λ c κs. tt)
     (λ c κs. tt)
+    (λ c κs. tt)
+    (λ c κs. tt)
+    (λ c κs. tt)
+    (λ c κs. tt)
+    (λ c κs. tt)
+    (λ c κs. tt)
     (λ c.
-    rw (c .answer .ensures) (decides _ _ _ _ (rw (c .before .before .before .bind-refusals .ensures)) (λ h. rw (c .before .with-cell .ensures, c .before .before .end-of .ensures)))))
+    let d = c .before .before .before .before in
+    let e = d .before .before .before .before in
+    let f = e .before .before .before .before in
+    let t = tables (f .args .s) in
+    rw (c .replied .ensures, c .before .answer .ensures) (decides eight t _ _ _ _ (rw (c .before .before .before .bind-refusals .ensures, d .is-sound .ensures, d .before .both .ensures, d .before .before .is-safe .ensures t refl, d .before .before .before .is-exported .ensures t refl, e .see .ensures t refl, e .before .cell-at .ensures t refl)) (λ h. rw (c .before .before .with-cell .ensures t, e .see .ensures t refl)))))

@@ -1,4 +1,6 @@
 -- `bound` meets its contract: its refusals in order, and what it does. Assumes nothing.
+use mathlib.Core.Path.{refl}
+use Rattle.tables.specs.Machine.{eight, tables}
 use Rattle.rules.specs.Calls.{bound}
 use Rattle.calls.specs.Verdicts.{along, decides}
 use Rattle.calls.proofs.bound.Statement.{statement}
@@ -14,6 +16,9 @@ bound-spec =
     (λ c κs. tt)
     (λ c κs. tt)
     (λ c κs. tt)
+    (λ c κs. tt)
     (λ c.
     let d = c .before .before .before .before in
-    rw (c .answer .ensures) (decides _ _ _ _ (rw (c .before .before .before .refuse-if .ensures, d .is-sound .ensures)) (λ h. rw (c .before .replied .ensures, c .before .before .all-costs .ensures)))))
+    let e = d .before .before .before .before in
+    let t = tables (e .args .s) in
+    rw (c .replied .ensures, c .before .answer .ensures) (decides eight t _ _ _ _ (rw (d .refuse-if .ensures, d .before .is-sound .ensures)) (λ h. rw (c .before .before .unchanged .ensures t, c .before .before .before .all-costs .ensures t refl refl)))))

@@ -1,4 +1,6 @@
 -- `deliver` meets its contract: its refusals in order, and what it does. Assumes nothing.
+use mathlib.Core.Path.{refl}
+use Rattle.tables.specs.Machine.{eight, tables}
 use Rattle.changes.specs.Weights.{message-weight}
 use Rattle.rules.specs.Deliver.{deliver}
 use Rattle.calls.specs.Verdicts.{along, decides}
@@ -19,7 +21,11 @@ deliver-spec =
     (λ c κs. tt)
     (λ c κs. tt)
     (λ c κs. tt)
+    (λ c κs. tt)
+    (λ c κs. tt)
     (λ c.
     let d = c .before .before .before .before in
     let e = d .before .before .before .before in
-    rw (c .answer .ensures) (decides _ _ _ _ (rw (c .before .before .refuse-if3 .ensures, c .before .before .before .is-ready .ensures, d .refuse-if2 .ensures, d .before .is-empty .ensures, d .before .before .refuse-if .ensures, d .before .before .before .is-sound .ensures, e .message-at .ensures)) (λ h. rw (c .before .deliver-message .ensures h (rw (e .message-at .ensures) (message-weight _ _ h _)), e .message-at .ensures)))))
+    let f = e .before .before .before .before in
+    let t = tables (f .before .before .args .s) in
+    rw (c .replied .ensures, c .before .answer .ensures) (decides eight t _ _ _ _ (rw (c .before .before .before .refuse-if3 .ensures, d .is-ready .ensures t (e .before .read-end .ensures t refl refl), d .before .refuse-if2 .ensures, d .before .before .is-empty .ensures, d .before .before .before .refuse-if .ensures, e .is-sound .ensures, e .before .before .message-at .ensures t refl)) (λ h. rw (c .before .before .deliver-message .ensures t refl refl h (rw (e .before .before .message-at .ensures t refl) (message-weight _ _ h _)) (e .before .read-end .ensures t refl refl), e .before .before .message-at .ensures t refl)))))

@@ -1,4 +1,6 @@
 -- `drop` meets its contract: its refusals in order, and what it does. Assumes nothing.
+use mathlib.Core.Path.{refl}
+use Rattle.tables.specs.Machine.{eight, tables}
 use Rattle.rules.specs.Calls.{drop}
 use Rattle.calls.specs.Verdicts.{along, decides}
 use Rattle.calls.proofs.drop.Statement.{statement}
@@ -17,6 +19,12 @@ drop-spec =
     (λ c κs. tt)
     (λ c κs. tt)
     (λ c κs. tt)
+    (λ c κs. tt)
+    (λ c κs. tt)
+    (λ c κs. tt)
     (λ c.
     let d = c .before .before .before .before in
-    rw (c .answer .ensures) (decides _ _ _ _ (rw (c .before .before .slot-refusal .ensures, c .before .before .before .refuse-if .ensures, d .is-busy .ensures, d .before .cell-refusals .ensures, d .before .before .is-ex .ensures, d .before .before .before .cell-at .ensures)) (λ h. rw (c .before .dropped .ensures, d .before .before .is-ex .ensures, d .before .before .before .cell-at .ensures)))))
+    let e = d .before .before .before .before in
+    let f = e .before .before .before .before in
+    let t = tables (f .before .before .args .s) in
+    rw (c .replied .ensures, c .before .answer .ensures) (decides eight t _ _ _ _ (rw (c .before .before .before .slot-refusal .ensures, d .refuse-if .ensures, d .before .cell-refusals .ensures, d .before .before .is-sound .ensures, d .before .before .before .is-ex .ensures, e .lowest-empty-slot .ensures t refl, e .before .is-busy .ensures t refl refl (e .before .before .cell-at .ensures t refl), e .before .before .cell-at .ensures t refl)) (λ h. rw (c .before .before .dropped .ensures t (e .lowest-empty-slot .ensures t refl), d .before .before .before .is-ex .ensures, e .before .before .cell-at .ensures t refl)))))

@@ -1,11 +1,14 @@
 -- `export` meets its contract: its refusals in order, and what it does. Assumes nothing.
+use mathlib.Core.Path.{refl}
+use Rattle.tables.specs.Machine.{eight, tables}
+use Rattle.tables.specs.Look.{endKind}
 use Rattle.rules.specs.Calls.{export}
 use Rattle.calls.specs.Verdicts.{along, decides}
 use Rattle.calls.proofs.export.Statement.{statement}
 use Rattle.calls.proofs.export.Tie as tie
 
 pub export-spec : {M : Type 1} → statement M
-unfolding along export
+unfolding along export endKind
 export-spec =
     tie.close
     (tie.spec
@@ -16,6 +19,12 @@ export-spec =
     (λ c κs. tt)
     (λ c κs. tt)
     (λ c κs. tt)
+    (λ c κs. tt)
+    (λ c κs. tt)
+    (λ c κs. tt)
     (λ c.
     let d = c .before .before .before .before in
-    rw (c .answer .ensures) (decides _ _ _ _ (rw (c .before .before .end-refusals .ensures, c .before .before .before .send-refusals .ensures, d .is-ex .ensures, d .before .end-kind .ensures, d .before .before .end-of .ensures)) (λ h. rw (c .before .export-end .ensures h, d .is-ex .ensures, d .before .end-kind .ensures, d .before .before .end-of .ensures)))))
+    let e = d .before .before .before .before in
+    let f = e .before .before .before .before in
+    let t = tables (f .before .args .s) in
+    rw (c .replied .ensures, c .before .answer .ensures) (decides eight t _ _ _ _ (rw (c .before .before .before .end-refusals .ensures, d .send-refusals .ensures, d .before .is-sound .ensures, d .before .before .room-at .ensures t refl refl, d .before .before .before .use-entry .ensures t refl, e .is-ex .ensures, e .before .see .ensures t refl)) (λ h. rw (c .before .before .export-end .ensures t h (rw (e .before .see .ensures t refl)) (d .before .before .before .use-entry .ensures t refl) (rw (d .before .before .room-at .ensures t refl refl)), e .is-ex .ensures, e .before .see .ensures t refl)))))

@@ -1,4 +1,6 @@
 -- `indirect` meets its contract: its refusals in order, and what it does. Assumes nothing.
+use mathlib.Core.Path.{refl}
+use Rattle.tables.specs.Machine.{eight, tables}
 use Rattle.rules.specs.Calls.{indirect}
 use Rattle.calls.specs.Verdicts.{along, decides}
 use Rattle.calls.proofs.indirect.Statement.{statement}
@@ -18,7 +20,12 @@ indirect-spec =
     (λ c κs. tt)
     (λ c κs. tt)
     (λ c κs. tt)
+    (λ c κs. tt)
+    (λ c κs. tt)
+    (λ c κs. tt)
     (λ c.
     let d = c .before .before .before .before in
     let e = d .before .before .before .before in
-    rw (c .answer .ensures) (decides _ _ _ _ (rw (c .before .before .before .by-location-refusals .ensures, d .refuse-if .ensures, d .before .is-ex .ensures, d .before .before .send-refusals .ensures, d .before .before .before .end-kind .ensures, e .end-of .ensures)) (λ h. rw (c .before .by-location .ensures h, c .before .before .is-safe .ensures, d .before .before .before .end-kind .ensures, e .end-of .ensures)))))
+    let f = e .before .before .before .before in
+    let t = tables (f .before .before .before .args .s) in
+    rw (c .replied .ensures, c .before .answer .ensures) (decides eight t _ _ _ _ (rw (d .by-location-refusals .ensures, d .before .refuse-if .ensures, d .before .before .is-ex .ensures, d .before .before .before .send-refusals .ensures, e .is-sound .ensures, e .before .room-at .ensures t refl refl, e .before .before .use-entry .ensures t refl, e .before .before .before .see .ensures t refl)) (λ h. rw (c .before .before .by-location .ensures t h (e .before .before .use-entry .ensures t refl) (rw (e .before .room-at .ensures t refl refl)), c .before .before .before .is-safe .ensures t refl, e .before .before .before .see .ensures t refl)))))

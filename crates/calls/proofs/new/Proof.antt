@@ -1,7 +1,9 @@
 -- `new` meets its contract: its refusals in order, and what it does. Assumes nothing.
+use borrow.Author.Needs.{needs}
+use mathlib.Core.Path.{refl}
+use Rattle.tables.specs.Machine.{eight, tables}
 use Rattle.rules.specs.Calls.{new}
 use Rattle.calls.specs.Verdicts.{along, decides}
-use borrow.Author.Needs.{needs}
 use Rattle.calls.proofs.new.Statement.{statement}
 use Rattle.calls.proofs.new.Tie as tie
 
@@ -15,9 +17,13 @@ new-spec =
     (λ c κs. tt)
     (λ c κs. tt)
     (λ c κs. tt)
+    (λ c κs. tt)
     (λ c. search needs)
+    (λ c κs. tt)
     (λ c κs. tt)
     (λ c κs. tt)
     (λ c.
     let d = c .before .before .before .before in
-    rw (c .answer .ensures) (decides _ _ _ _ (rw (c .before .before .before .refuse-if .ensures, d .worker-refusals .ensures, d .before .booked .ensures, d .before .before .free-cells .ensures)) (λ h. rw (c .before .with-cell .ensures, c .before .before .lowest-free-cell .ensures)))))
+    let e = d .before .before .before .before in
+    let t = tables (e .before .before .before .args .s) in
+    rw (c .replied .ensures, c .before .answer .ensures) (decides eight t _ _ _ _ (rw (d .refuse-if .ensures, d .before .worker-refusals .ensures, d .before .before .is-sound .ensures, d .before .before .before .booked .ensures t refl, e .free-cells .ensures t refl)) (λ h. rw (c .before .before .with-cell .ensures t, c .before .before .before .lowest-free-cell .ensures t refl)))))

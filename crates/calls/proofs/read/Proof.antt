@@ -1,4 +1,6 @@
 -- `read` meets its contract: its refusals in order, and what it does. Assumes nothing.
+use mathlib.Core.Path.{refl}
+use Rattle.tables.specs.Machine.{eight, tables}
 use Rattle.rules.specs.Calls.{read}
 use Rattle.calls.specs.Verdicts.{along, decides}
 use Rattle.calls.proofs.read.Statement.{statement}
@@ -16,6 +18,10 @@ read-spec =
     (λ c κs. tt)
     (λ c κs. tt)
     (λ c κs. tt)
+    (λ c κs. tt)
+    (λ c κs. tt)
     (λ c.
     let d = c .before .before .before .before in
-    rw (c .answer .ensures) (decides _ _ _ _ (rw (c .before .before .slot-refusal .ensures, c .before .before .before .read-sends .ensures, d .cell-refusals .ensures, d .before .end-kind .ensures)) (λ h. rw (c .before .read-at .ensures, d .before .end-kind .ensures, d .before .before .end-of .ensures)))))
+    let e = d .before .before .before .before in
+    let t = tables (e .before .before .before .args .s) in
+    rw (c .replied .ensures, c .before .answer .ensures) (decides eight t _ _ _ _ (rw (c .before .before .before .slot-refusal .ensures, d .read-sends .ensures, d .before .cell-refusals .ensures, d .before .before .is-sound .ensures, d .before .before .before .lowest-empty-slot .ensures t refl, e .see .ensures t refl)) (λ h. rw (c .before .before .read-at .ensures t (d .before .before .before .lowest-empty-slot .ensures t refl), e .see .ensures t refl)))))

@@ -1,4 +1,6 @@
 -- `set` meets its contract: its refusals in order, and what it does. Assumes nothing.
+use mathlib.Core.Path.{refl}
+use Rattle.tables.specs.Machine.{eight, tables}
 use Rattle.rules.specs.Calls.{set}
 use Rattle.calls.specs.Verdicts.{along, decides}
 use Rattle.calls.proofs.set.Statement.{statement}
@@ -15,6 +17,10 @@ set-spec =
     (λ c κs. tt)
     (λ c κs. tt)
     (λ c κs. tt)
+    (λ c κs. tt)
+    (λ c κs. tt)
     (λ c.
     let d = c .before .before .before .before in
-    rw (c .answer .ensures) (decides _ _ _ _ (rw (c .before .before .refuse-if .ensures, c .before .before .before .is-var .ensures, d .cell-refusals .ensures, d .before .cell-at .ensures)) (λ h. rw (c .before .with-cell .ensures)))))
+    let e = d .before .before .before .before in
+    let t = tables (e .before .args .s) in
+    rw (c .replied .ensures, c .before .answer .ensures) (decides eight t _ _ _ _ (rw (c .before .before .before .refuse-if .ensures, d .is-var .ensures, d .before .cell-refusals .ensures, d .before .before .is-sound .ensures, d .before .before .before .cell-at .ensures t refl)) (λ h. c .before .before .with-cell .ensures t))))

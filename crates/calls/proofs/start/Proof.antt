@@ -1,15 +1,12 @@
--- `start` meets its contract: one refusal, and a state with everything free. Assumes nothing.
-use Rattle.calls.specs.declared.verdict.Verdict.the-variants.{Go}
-use Rattle.rules.specs.Refusals.{badCount}
+-- `start` meets its contract: refused, or a state with everything free. Assumes nothing.
 use Rattle.tables.specs.Machine.{eight}
-use mathlib.Core.List.{[], _∷_}
-use Rattle.rules.specs.Calls.{closed, start}
-use Rattle.calls.specs.Verdicts.{along, answered, along-checked}
+use Rattle.rules.specs.Answers.{checked}
+use Rattle.rules.specs.Calls.{closed, allFree, start}
 use Rattle.calls.proofs.start.Statement.{statement}
 use Rattle.calls.proofs.start.Tie as tie
 
 pub start-spec : {M : Type 1} → statement M
-unfolding along answered start
+unfolding checked start
 start-spec =
     tie.close
     (tie.spec
@@ -17,8 +14,8 @@ start-spec =
     (λ c κs. tt)
     (λ c κs. tt)
     (λ c κs. tt)
+    (λ c. rw (c .replied .ensures, c .before .all-free .ensures, c .before .before .unchanged .ensures (closed eight), ← c .before .before .before .before .either .ensures, c .before .before .before .if1 .taken))
     (λ c κs. tt)
     (λ c κs. tt)
-    (λ c.
-    let d = c .before .before .before .before in
-    rw (c .answer .ensures, c .before .all-free2 .ensures, c .before .before .refuse-if .ensures, c .before .before .before .either .ensures, d .replied .ensures, d .before .all-free .ensures) (along-checked Go (closed eight) (badCount eight (d .before .before .args .p) ∷ []) _)))
+    (λ c κs. tt)
+    (λ c. rw (c .replied2 .ensures, c .before .before .all-free2 .ensures, c .before .unchanged2 .ensures (allFree eight (c .before .before .before .before .before .args .p)), ← c .before .before .before .before .either .ensures, c .before .before .before .if1 .left)))

@@ -1,4 +1,6 @@
 -- `transfer` meets its contract: its refusals in order, and what it does. Assumes nothing.
+use mathlib.Core.Path.{refl}
+use Rattle.tables.specs.Machine.{eight, tables}
 use Rattle.rules.specs.Calls.{transfer}
 use Rattle.calls.specs.Verdicts.{along, decides}
 use Rattle.calls.proofs.transfer.Statement.{statement}
@@ -18,7 +20,12 @@ transfer-spec =
     (λ c κs. tt)
     (λ c κs. tt)
     (λ c κs. tt)
+    (λ c κs. tt)
+    (λ c κs. tt)
+    (λ c κs. tt)
     (λ c.
     let d = c .before .before .before .before in
     let e = d .before .before .before .before in
-    rw (c .answer .ensures) (decides _ _ _ _ (rw (c .before .before .room-refusals .ensures, c .before .before .before .refuse-if2 .ensures, d .is-busy .ensures, d .before .refuse-if .ensures, d .before .before .is-ex .ensures, d .before .before .before .send-refusals .ensures, e .cell-at .ensures)) (λ h. rw (c .before .transferred .ensures, e .cell-at .ensures)))))
+    let f = e .before .before .before .before in
+    let t = tables (f .before .before .before .args .s) in
+    rw (c .replied .ensures, c .before .answer .ensures) (decides eight t _ _ _ _ (rw (c .before .before .before .room-refusals .ensures, d .refuse-if2 .ensures, d .before .refuse-if .ensures, d .before .before .is-ex .ensures, d .before .before .before .send-refusals .ensures, e .is-sound .ensures, e .before .room-at .ensures t refl refl, e .before .before .is-busy .ensures t refl refl (e .before .before .before .cell-at .ensures t refl), e .before .before .before .cell-at .ensures t refl)) (λ h. rw (c .before .before .transferred .ensures t (rw (e .before .room-at .ensures t refl refl)), e .before .before .before .cell-at .ensures t refl)))))

@@ -1,9 +1,9 @@
--- `changes::all_costs` meets its contract: a sum over the slots. `good` says how many slots the state has. Assumes nothing.
+-- `changes::all_costs` meets its contract: a sum over the slots. `good` says how many slots there are. Assumes nothing.
 use Prim.Native.Nat.{_-_, _≤_}
 use native.Mathlib.Omega.{arith}
 use mathlib.Core.Path.{_≡_}
 use borrow.Author.Needs.{needs}
-use lib.ListN.{length, length-map}
+use lib.ListN.{length}
 use Rattle.numbers.specs.ListLaws.{total-below}
 use Rattle.tables.specs.declared.Message.the-variants.{Empty}
 use Rattle.tables.specs.Machine.{eight}
@@ -15,10 +15,10 @@ use Rattle.changes.proofs.all_costs.Statement.{statement}
 use Rattle.changes.proofs.all_costs.Tie as tie
 
 abbrev Inv-loop : tie.InvT-loop
-Inv-loop s live n₀ k₀ n k = Summing (λ j. costs live (messageAt (s .slots) j)) 64 k n
+Inv-loop slots live n₀ k₀ n k = Summing (λ j. costs live (messageAt slots j)) 64 k n
 
 abbrev μ-loop : tie.MeasureT-loop
-μ-loop s live n₀ k₀ n k = 64 - k
+μ-loop slots live n₀ k₀ n k = 64 - k
 
 pub all-costs-spec : {M : Type 1} → statement M
 unfolding B
@@ -36,13 +36,13 @@ all-costs-spec =
     let d = c .before .before .before in
     let live = d .before .live-entries .result in
     let few : live ≤ 255 = omega arith in
-    let message = messageAt (d .before .before .args .t1 .slots) in
+    let message = messageAt (d .before .before .args .t2) in
     omega (arith, d .loop .inv .sofar, sum-small live few message (d .loop .k), c .costs .ensures, costs-small live few (message (d .loop .k))))
     (λ c. search needs)
     (λ c. search needs)
     (λ c. add-step (c .before .before .before .loop .inv) (omega arith) (c .costs .ensures) (omega arith))
-    (λ c.
+    (λ c t e f.
     let d = c .before .before in
-    let s = d .before .args .t1 in
-    let l : length (s .slots) ≡ 64 = simp length-map at (d .before .good .0 .1 .1 .1 .1 .1 .0 .1 .0 .1) in
-    rw (← d .live-entries .ensures, total-below (λ x. costs (d .live-entries .result) (x .message)) (s .slots) (record { message = Empty }), l) (add-end (c .before .loop .inv) (c .loop-test .left))))
+    let slots = d .before .args .t2 in
+    let l : length slots ≡ 64 = d .before .good .1 .0 .1 .0 .1 in
+    rw (← d .live-entries .ensures t e, f, total-below (λ x. costs (d .live-entries .result) (x .message)) slots (record { message = Empty }), l) (add-end (c .before .loop .inv) (c .loop-test .left))))

@@ -1,6 +1,5 @@
 -- `changes::by_reference` meets its contract. Assumes nothing.
 use Rattle.rules.specs.Calls.{byReference}
-use borrow.Author.Needs.{needs}
 use Rattle.changes.proofs.by_reference.Statement.{statement}
 use Rattle.changes.proofs.by_reference.Tie as tie
 
@@ -11,10 +10,5 @@ by-reference-spec =
     (tie.spec
     (λ c κs. tt)
     (λ c κs. tt)
-    (λ c. search needs)
     (λ c κs. tt)
-    (λ c κs. tt)
-    (λ c κs. tt)
-    (λ c.
-    let d = c .before .before .before .before in
-    rw (c .with-cell-and-message .ensures, c .before .sends .ensures, c .before .before .keeps .ensures, c .before .before .before .lowest-empty-slot .ensures, d .cell-at .ensures)))
+    (λ c t e f. rw (c .with-cell-and-message .ensures t, c .before .sends .ensures, c .before .before .keeps .ensures, e, f)))

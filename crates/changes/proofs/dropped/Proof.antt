@@ -1,5 +1,4 @@
 -- `changes::dropped` meets its contract, by cases. Assumes nothing.
-use borrow.Author.Needs.{needs}
 use Rattle.changes.proofs.dropped.Statement.{statement}
 use Rattle.changes.proofs.dropped.Tie as tie
 
@@ -8,9 +7,7 @@ dropped-spec =
     tie.close
     (tie.spec
     (λ c κs. tt)
-    (λ c. search needs)
     (λ c κs. tt)
     (λ c κs. tt)
-    (λ c κs. tt)
-    (λ c. rw (c .with-cell-and-message .ensures, c .before .releases .ensures, c .before .before .lowest-empty-slot .ensures, c .before .before .before .if1 .taken))
-    (λ c. rw (c .with-cell .ensures, c .before .if1 .left)))
+    (λ c t e. rw (c .with-cell-and-message .ensures t, c .before .releases .ensures, c .before .before .if1 .taken, e))
+    (λ c t e. rw (c .with-cell .ensures t, c .before .if1 .left)))

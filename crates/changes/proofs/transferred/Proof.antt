@@ -1,5 +1,4 @@
 -- `changes::transferred` meets its contract. Assumes nothing.
-use borrow.Author.Needs.{needs}
 use Rattle.changes.proofs.transferred.Statement.{statement}
 use Rattle.changes.proofs.transferred.Tie as tie
 
@@ -8,7 +7,5 @@ transferred-spec =
     tie.close
     (tie.spec
     (λ c κs. tt)
-    (λ c. search needs)
     (λ c κs. tt)
-    (λ c κs. tt)
-    (λ c. rw (c .with-cell-and-message .ensures, c .before .sends-whole .ensures, c .before .before .lowest-empty-slot .ensures)))
+    (λ c t e. rw (c .with-cell-and-message .ensures t, c .before .sends-whole .ensures, e)))

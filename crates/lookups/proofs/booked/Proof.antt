@@ -1,8 +1,8 @@
--- `lookups::booked` meets its contract: a count over the slots. `good` says how many slots the state has. Assumes nothing.
+-- `lookups::booked` meets its contract: a count over the slots. `good` says how many slots there are. Assumes nothing.
 use Prim.Native.Nat.{_-_}
 use native.Mathlib.Omega.{arith}
 use mathlib.Core.Path.{_≡_}
-use lib.ListN.{length, length-map}
+use lib.ListN.{length}
 use Rattle.numbers.specs.Loops.{Counting, count-end, loops}
 use Rattle.tables.specs.Parts.{goesTo}
 use Rattle.tables.specs.Look.{messageAt, booked}
@@ -11,10 +11,10 @@ use Rattle.lookups.proofs.booked.Statement.{statement}
 use Rattle.lookups.proofs.booked.Tie as tie
 
 abbrev Inv-loop : tie.InvT-loop
-Inv-loop w s n₀ k₀ n k = Counting (λ j. goesTo w (messageAt (s .slots) j)) 64 k n
+Inv-loop w slots n₀ k₀ n k = Counting (λ j. goesTo w (messageAt slots j)) 64 k n
 
 abbrev μ-loop : tie.MeasureT-loop
-μ-loop w s n₀ k₀ n k = 64 - k
+μ-loop w slots n₀ k₀ n k = 64 - k
 
 pub booked-spec : {M : Type 1} → statement M
 unfolding booked
@@ -32,7 +32,7 @@ booked-spec =
     (λ c. search loops)
     (λ c. search loops)
     (λ c. search loops)
-    (λ c.
+    (λ c t e.
     let a = c .before .before .args in
-    let l : length (a .t1 .slots) ≡ 64 = simp length-map at (c .before .before .good .0 .1 .1 .1 .1 .1 .0 .1 .0 .1) in
-    count-total (λ x. goesTo (a .w) (x .message)) (a .t1 .slots) _ l (count-end (c .before .loop .inv) (c .loop-test .left))))
+    let l : length (a .t1) ≡ 64 = c .before .before .good .0 .1 .0 .1 in
+    rw e (count-total (λ x. goesTo (a .w) (x .message)) (a .t1) _ l (count-end (c .before .loop .inv) (c .loop-test .left)))))

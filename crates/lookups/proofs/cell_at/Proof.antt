@@ -10,10 +10,10 @@ unfolding cell
 cell-at-spec =
     tie.close
     (tie.spec
-    (λ c. rw (le-ltb _ _ (c .if1 .taken)))
-    (λ c. rw (lt-ltb _ _ (c .before .if1 .left), le-ltb _ _ (c .if2 .taken)))
+    (λ c t e. rw (le-ltb _ _ (c .if1 .taken)))
+    (λ c t e. rw (lt-ltb _ _ (c .before .if1 .left), le-ltb _ _ (c .if2 .taken)))
     (λ c. search needs)
     (λ c. search needs)
     (λ c. search needs)
     (λ c. search needs)
-    (λ c. rw (lt-ltb _ _ (c .before .before .if1 .left), lt-ltb _ _ (c .before .if2 .left))))
+    (λ c t e. rw (lt-ltb _ _ (c .before .before .if1 .left), lt-ltb _ _ (c .before .if2 .left), e)))

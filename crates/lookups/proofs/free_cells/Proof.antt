@@ -1,7 +1,6 @@
 -- `lookups::free_cells` meets its contract: a count over a worker's cells. Assumes nothing.
 use Prim.Native.Nat.{_+_, _*_, _-_, _<_}
 use native.Mathlib.Omega.{arith}
-use mathlib.Core.Path.{_∙_}
 use Rattle.numbers.specs.Loops.{Counting, count-end, loops}
 use Rattle.tables.specs.Machine.{eight}
 use Rattle.tables.specs.Parts.{isFree}
@@ -11,10 +10,10 @@ use Rattle.lookups.proofs.free_cells.Statement.{statement}
 use Rattle.lookups.proofs.free_cells.Tie as tie
 
 abbrev Inv-loop : tie.InvT-loop
-Inv-loop w s n₀ c₀ n c = (w < 8) × Counting (λ j. isFree (kindAt (s .cells) (w * 32 + j))) 32 c n
+Inv-loop w cells n₀ c₀ n c = (w < 8) × Counting (λ j. isFree (kindAt cells (w * 32 + j))) 32 c n
 
 abbrev μ-loop : tie.MeasureT-loop
-μ-loop w s n₀ c₀ n c = 32 - c
+μ-loop w cells n₀ c₀ n c = 32 - c
 
 pub free-cells-spec : {M : Type 1} → statement M
 unfolding freeCells
@@ -23,7 +22,7 @@ free-cells-spec =
     (tie.spec
     Inv-loop
     μ-loop
-    (λ c. cells-count-past eight _ _ isFree (c .if1 .taken))
+    (λ c t e. cells-count-past eight t _ isFree (c .if1 .taken))
     (λ c. search loops)
     (λ c. search loops)
     (λ c. search loops)
@@ -36,4 +35,4 @@ free-cells-spec =
     (λ c. search loops)
     (λ c. search loops)
     (λ c. search loops)
-    (λ c. count-end (c .before .loop .inv .1) (c .loop-test .left) ∙ cells-count eight _ _ isFree (c .before .loop .inv .0)))
+    (λ c t e. rw (← cells-count eight t _ isFree (c .before .loop .inv .0), e) (count-end (c .before .loop .inv .1) (c .loop-test .left))))

@@ -15,7 +15,6 @@ is-busy-spec =
     (λ c κs. tt)
     (λ c κs. tt)
     (λ c κs. tt)
-    (λ c κs. tt)
-    (λ c.
+    (λ c t e f g.
     let d = c .before .before .before in
-    rw (c .either3 .ensures, c .before .is-asking .ensures, c .before .before .either2 .ensures, d .is-reading .ensures, d .before .either .ensures, d .before .before .is-referred .ensures, d .before .before .before .is-exported .ensures, d .before .before .before .before .cell-at .ensures)))
+    rw (c .either3 .ensures, c .before .is-asking .ensures, c .before .before .either2 .ensures, d .is-reading .ensures, d .before .either .ensures, d .before .before .is-referred .ensures t e, d .before .before .before .is-exported .ensures t f, g)))

@@ -1,4 +1,4 @@
--- `lookups::is_exported` meets its contract: a search that found. Assumes nothing.
+-- `lookups::is_exported` meets its contract: one search. Assumes nothing.
 use Rattle.tables.specs.Look.{exported}
 use Rattle.lookups.proofs.is_exported.Statement.{statement}
 use Rattle.lookups.proofs.is_exported.Tie as tie
@@ -9,4 +9,4 @@ is-exported-spec =
     tie.close
     (tie.spec
     (λ c κs. tt)
-    (λ c. rw (c .entry-of .ensures)))
+    (λ c t e. rw (c .entry-of .ensures t e)))

@@ -1,4 +1,4 @@
--- `lookups::is_referred` meets its contract: a search that found. Assumes nothing.
+-- `lookups::is_referred` meets its contract: one search. Assumes nothing.
 use Rattle.tables.specs.Look.{referred}
 use Rattle.lookups.proofs.is_referred.Statement.{statement}
 use Rattle.lookups.proofs.is_referred.Tie as tie
@@ -9,4 +9,4 @@ is-referred-spec =
     tie.close
     (tie.spec
     (λ c κs. tt)
-    (λ c. rw (c .ref-naming .ensures)))
+    (λ c t e. rw (c .lowest-cell .ensures t e)))

@@ -1,8 +1,8 @@
--- `lookups::live_entries` meets its contract: a count over the entries. `good` says how many entries the state has. Assumes nothing.
+-- `lookups::live_entries` meets its contract: a count over the entries. `good` says how many entries there are. Assumes nothing.
 use Prim.Native.Nat.{_-_}
 use native.Mathlib.Omega.{arith}
 use mathlib.Core.Path.{_≡_}
-use lib.ListN.{length, length-map}
+use lib.ListN.{length}
 use Rattle.numbers.specs.Loops.{Counting, count-end, loops}
 use Rattle.tables.specs.Parts.{isLive}
 use Rattle.tables.specs.Look.{holdingAt, liveEntries}
@@ -11,10 +11,10 @@ use Rattle.lookups.proofs.live_entries.Statement.{statement}
 use Rattle.lookups.proofs.live_entries.Tie as tie
 
 abbrev Inv-loop : tie.InvT-loop
-Inv-loop s n₀ i₀ n i = Counting (λ j. isLive (holdingAt (s .entries) j)) 128 i n
+Inv-loop entries n₀ i₀ n i = Counting (λ j. isLive (holdingAt entries j)) 128 i n
 
 abbrev μ-loop : tie.MeasureT-loop
-μ-loop s n₀ i₀ n i = 128 - i
+μ-loop entries n₀ i₀ n i = 128 - i
 
 pub live-entries-spec : {M : Type 1} → statement M
 unfolding liveEntries
@@ -32,7 +32,7 @@ live-entries-spec =
     (λ c. search loops)
     (λ c. search loops)
     (λ c. search loops)
-    (λ c.
+    (λ c t e.
     let a = c .before .before .args in
-    let l : length (a .t1 .entries) ≡ 128 = simp length-map at (c .before .before .good .0 .1 .1 .1 .1 .0 .1 .0 .1) in
-    count-total (λ x. isLive (x .holding)) (a .t1 .entries) _ l (count-end (c .before .loop .inv) (c .loop-test .left))))
+    let l : length (a .t1) ≡ 128 = c .before .before .good .0 .1 .0 .1 in
+    rw e (count-total (λ x. isLive (x .holding)) (a .t1) _ l (count-end (c .before .loop .inv) (c .loop-test .left)))))

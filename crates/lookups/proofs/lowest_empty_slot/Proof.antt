@@ -1,17 +1,17 @@
 -- `lookups::lowest_empty_slot` meets its contract: a search over the slots. Assumes nothing.
 use Prim.Native.Nat.{_-_}
+use Rattle.numbers.specs.Below.{lowest}
 use Rattle.numbers.specs.Loops.{Seeking, loops}
-use Rattle.tables.specs.Machine.{eight, tables}
 use Rattle.tables.specs.Parts.{isEmpty}
 use Rattle.tables.specs.Look.{messageAt, lowestEmptySlot}
 use Rattle.lookups.proofs.lowest_empty_slot.Statement.{statement}
 use Rattle.lookups.proofs.lowest_empty_slot.Tie as tie
 
 abbrev Inv-loop : tie.InvT-loop
-Inv-loop s k₀ k = Seeking (λ j. isEmpty (messageAt (s .slots) j)) 64 k (lowestEmptySlot eight (tables s))
+Inv-loop slots k₀ k = Seeking (λ j. isEmpty (messageAt slots j)) 64 k (lowest 64 (λ j. isEmpty (messageAt slots j)))
 
 abbrev μ-loop : tie.MeasureT-loop
-μ-loop s k₀ k = 64 - k
+μ-loop slots k₀ k = 64 - k
 
 pub lowest-empty-slot-spec : {M : Type 1} → statement M
 unfolding lowestEmptySlot
@@ -25,8 +25,8 @@ lowest-empty-slot-spec =
     (λ c. search loops)
     (λ c. search loops)
     (λ c κs. tt)
+    (λ c t e. rw e (search loops))
     (λ c. search loops)
     (λ c. search loops)
     (λ c. search loops)
-    (λ c. search loops)
-    (λ c. search loops))
+    (λ c t e. rw e (search loops)))

@@ -1,9 +1,8 @@
--- `lookups::message_at` meets its contract: the guard, and the read. `good` says how many slots the state has. Assumes nothing.
+-- `lookups::message_at` meets its contract: the guard, and the read. `good` says how many slots there are. Assumes nothing.
 use native.Mathlib.Omega.{arith}
 use mathlib.Core.Path.{_≡_}
 use borrow.Author.Needs.{needs}
-use lib.ListN.{length, length-map}
-use Rattle.tables.specs.Machine.{tables}
+use lib.ListN.{length}
 use Rattle.lookups.specs.Laws.{message-past}
 use Rattle.lookups.proofs.message_at.Statement.{statement}
 use Rattle.lookups.proofs.message_at.Tie as tie
@@ -12,10 +11,10 @@ pub message-at-spec : {M : Type 1} → statement M
 message-at-spec =
     tie.close
     (tie.spec
-    (λ c.
+    (λ c t e.
     let a = c .before .args in
-    let l : length (a .t1 .slots) ≡ 64 = simp length-map at (c .before .good .0 .1 .1 .1 .1 .1 .0 .1 .0 .1) in
-    message-past (tables (a .t1)) (a .k) (omega arith))
+    let l : length (a .t1) ≡ 64 = c .before .good .0 .1 .0 .1 in
+    message-past t (a .k) (rw e (omega arith)))
     (λ c. search needs)
     (λ c. search needs)
-    (λ c. search needs))
+    (λ c t e. rw e))

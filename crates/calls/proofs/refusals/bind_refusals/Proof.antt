@@ -16,14 +16,6 @@ bind-refusals-spec =
     (λ c κs. tt)
     (λ c κs. tt)
     (λ c κs. tt)
-    (λ c κs. tt)
-    (λ c κs. tt)
-    (λ c κs. tt)
-    (λ c κs. tt)
-    (λ c κs. tt)
-    (λ c κs. tt)
     (λ c.
     let d = c .before .before .before .before in
-    let e = d .before .before .before .before in
-    let f = e .before .before .before .before in
-    rw (c .refuse-if4 .ensures, c .before .refuse-if3 .ensures, c .before .before .is-ex .ensures, c .before .before .before .refuse-if2 .ensures, d .is-var .ensures, d .before .refuse-if .ensures, d .before .before .is-free .ensures, d .before .before .before .cell-refusals .ensures, e .both .ensures, e .before .is-safe .ensures, e .before .before .is-exported .ensures, e .before .before .before .end-kind .ensures, f .cell-at2 .ensures, f .before .cell-at .ensures)))
+    rw (c .refuse-if4 .ensures, c .before .refuse-if3 .ensures, c .before .before .is-ex .ensures, c .before .before .before .refuse-if2 .ensures, d .is-var .ensures, d .before .refuse-if .ensures, d .before .before .is-free .ensures, d .before .before .before .cell-refusals .ensures)))

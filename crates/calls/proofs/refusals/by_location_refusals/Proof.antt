@@ -23,8 +23,4 @@ by-location-refusals-spec =
     (λ c κs. tt)
     (λ c κs. tt)
     (λ c κs. tt)
-    (λ c κs. tt)
-    (λ c κs. tt)
-    (λ c.
-    let d = c .before .before .before .before in
-    rw (c .room-refusals .ensures, c .before .refuse-if2 .ensures, c .before .before .refuse-if .ensures, c .before .before .before .entry-weight .ensures, d .entry-at .ensures, d .before .entry-to-use .ensures, passes-ceiling)))
+    (λ c. rw (c .room-refusals .ensures, c .before .refuse-if2 .ensures, c .before .before .refuse-if .ensures, c .before .before .before .entry-weight .ensures, passes-ceiling)))

@@ -11,5 +11,4 @@ by-reference-refusals-spec =
     (λ c κs. tt)
     (λ c κs. tt)
     (λ c κs. tt)
-    (λ c κs. tt)
-    (λ c. rw (c .room-refusals .ensures, c .before .refuse-if .ensures, c .before .before .ex-weight .ensures, c .before .before .before .cell-at .ensures)))
+    (λ c. rw (c .room-refusals .ensures, c .before .refuse-if .ensures, c .before .before .ex-weight .ensures)))

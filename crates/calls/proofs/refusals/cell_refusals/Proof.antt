@@ -11,5 +11,4 @@ cell-refusals-spec =
     (λ c κs. tt)
     (λ c κs. tt)
     (λ c κs. tt)
-    (λ c κs. tt)
-    (λ c. rw (c .refuse-if .ensures, c .before .is-free .ensures, c .before .before .worker-refusals .ensures, c .before .before .before .cell-at .ensures)))
+    (λ c. rw (c .refuse-if .ensures, c .before .is-free .ensures, c .before .before .worker-refusals .ensures)))

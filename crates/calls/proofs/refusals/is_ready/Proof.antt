@@ -1,6 +1,6 @@
--- `refusals::is_ready` meets its contract, by cases; of a Read the end of its entry's cell is looked up. Assumes nothing.
-use Rattle.rules.specs.Refusals.{ready}
+-- `refusals::is_ready` meets its contract, by cases; of a Read the end is tested. Assumes nothing.
 use borrow.Author.Needs.{needs}
+use Rattle.rules.specs.Refusals.{ready}
 use Rattle.calls.proofs.refusals.is_ready.Statement.{statement}
 use Rattle.calls.proofs.refusals.is_ready.Tie as tie
 
@@ -14,17 +14,13 @@ is-ready-spec =
     (λ c. search needs)
     (λ c. search needs)
     (λ c κs. tt)
-    (λ c κs. tt)
-    (λ c κs. tt)
     (λ c. search needs)
     (λ c. search needs)
     (λ c. search needs)
-    (λ c. search needs)
-    (λ c. search needs)
-    (λ c. search needs)
-    (λ c.
-    let d = c .before .before .before .before in
-    rw (c .is-var .ensures, c .before .entry-end .ensures, c .before .before .entry-at .ensures, d .m .given .1))
-    (λ c. search needs)
-    (λ c. search needs)
-    (λ c. search needs))
+    (λ c t e. rw (c .enum-told .given .1))
+    (λ c t e. rw (c .enum-told2 .given .1))
+    (λ c t e. rw (c .enum-told3 .given .1))
+    (λ c t e. rw (c .is-var .ensures, e, c .before .enum-told4 .given .1))
+    (λ c t e. rw (c .enum-told5 .given .1))
+    (λ c t e. rw (c .enum-told6 .given .1))
+    (λ c t e. rw (c .enum-told7 .given .1)))

@@ -10,6 +10,4 @@ room-refusals-spec =
     (tie.spec
     (λ c κs. tt)
     (λ c κs. tt)
-    (λ c κs. tt)
-    (λ c κs. tt)
-    (λ c. rw (c .slot-refusal .ensures, c .before .refuse-if .ensures, c .before .before .booked .ensures, c .before .before .before .free-cells .ensures)))
+    (λ c. rw (c .slot-refusal .ensures, c .before .refuse-if .ensures)))

@@ -13,7 +13,6 @@ send-refusals-spec =
     (λ c κs. tt)
     (λ c κs. tt)
     (λ c κs. tt)
-    (λ c κs. tt)
     (λ c.
     let d = c .before .before .before .before in
-    rw (c .refuse-if3 .ensures, c .before .is-free .ensures, c .before .before .refuse-if2 .ensures, c .before .before .before .refuse-if .ensures, d .worker-refusals .ensures, d .before .cell-at .ensures)))
+    rw (c .refuse-if3 .ensures, c .before .is-free .ensures, c .before .before .refuse-if2 .ensures, c .before .before .before .refuse-if .ensures, d .worker-refusals .ensures)))

@@ -10,5 +10,4 @@ slot-refusal-spec =
     (tie.spec
     (λ c κs. tt)
     (λ c κs. tt)
-    (λ c κs. tt)
-    (λ c. rw (c .refuse-if .ensures, c .before .both .ensures, c .before .before .lowest-empty-slot .ensures)))
+    (λ c. rw (c .refuse-if .ensures, c .before .both .ensures)))

@@ -10,5 +10,4 @@ worker-refusals-spec =
     (tie.spec
     (λ c κs. tt)
     (λ c κs. tt)
-    (λ c κs. tt)
-    (λ c. rw (c .refuse-if2 .ensures, c .before .refuse-if .ensures, c .before .before .is-sound .ensures)))
+    (λ c. rw (c .refuse-if2 .ensures, c .before .refuse-if .ensures)))

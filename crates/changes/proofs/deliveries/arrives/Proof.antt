@@ -10,6 +10,6 @@ arrives-spec =
     tie.close
     (tie.spec
     (λ c κs. tt)
-    (λ c. rw (← c .before .ex-naming .ensures, lt-ltb _ _ (c .if1 .taken)))
+    (λ c t e. rw (← c .before .ex-naming .ensures t e, lt-ltb _ _ (c .if1 .taken)))
     (λ c κs. tt)
-    (λ c. rw (c .lowest-free-cell .ensures, ← c .before .before .ex-naming .ensures, le-ltb _ _ (c .before .if1 .left))))
+    (λ c t e. rw (c .lowest-free-cell .ensures t e, ← c .before .before .ex-naming .ensures t e, le-ltb _ _ (c .before .if1 .left))))

@@ -13,6 +13,6 @@ deliver-ask-spec =
     (λ c κs. tt)
     (λ c κs. tt)
     (λ c κs. tt)
-    (λ c.
+    (λ c t e.
     let d = c .before .before .before .before in
-    rw (c .with-entry-and-message .ensures, c .before .grown .ensures, c .before .before .supply-from .ensures, c .before .before .before .entry-weight .ensures, d .entry-at .ensures)))
+    rw (c .with-entry-and-message .ensures t, c .before .grown .ensures, c .before .before .supply-from .ensures, c .before .before .before .entry-weight .ensures, d .entry-at .ensures t e)))

@@ -1,7 +1,7 @@
 -- `changes::deliveries::deliver_away` meets its contract: in a sound state the weights are added. Assumes nothing.
+use borrow.Author.Needs.{needs}
 use Rattle.rules.specs.Deliver.{deliverAway}
 use Rattle.changes.specs.Weights.{cell-weight}
-use borrow.Author.Needs.{needs}
 use Rattle.changes.proofs.deliveries.deliver_away.Statement.{statement}
 use Rattle.changes.proofs.deliveries.deliver_away.Tie as tie
 
@@ -15,6 +15,6 @@ deliver-away-spec =
     (λ c κs. tt)
     (λ c. search needs)
     (λ c κs. tt)
-    (λ c h q.
+    (λ c t e h q.
     let d = c .before in
-    rw (c .with-cell-and-message .ensures, d .joined .ensures q (rw (d .before .cell-at .ensures) (cell-weight _ _ h _ _)), d .before .cell-at .ensures, d .before .before .arrives .ensures)))
+    rw (c .with-cell-and-message .ensures t, d .joined .ensures q (rw (d .before .cell-at .ensures t e) (cell-weight _ _ h _ _)), d .before .cell-at .ensures t e, d .before .before .arrives .ensures t e)))

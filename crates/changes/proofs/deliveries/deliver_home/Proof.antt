@@ -1,6 +1,6 @@
 -- `changes::deliveries::deliver_home` meets its contract. Assumes nothing.
-use Rattle.rules.specs.Deliver.{deliverHome}
 use borrow.Author.Needs.{needs}
+use Rattle.rules.specs.Deliver.{deliverHome}
 use Rattle.changes.proofs.deliveries.deliver_home.Statement.{statement}
 use Rattle.changes.proofs.deliveries.deliver_home.Tie as tie
 
@@ -14,4 +14,4 @@ deliver-home-spec =
     (λ c. search needs)
     (λ c κs. tt)
     (λ c κs. tt)
-    (λ c. rw (c .with-entry-and-message .ensures, c .before .taken-off .ensures, c .before .before .cell-of .ensures, c .before .before .before .entry-at .ensures)))
+    (λ c t e. rw (c .with-entry-and-message .ensures t, c .before .taken-off .ensures, c .before .before .cell-of .ensures, c .before .before .before .entry-at .ensures t e)))

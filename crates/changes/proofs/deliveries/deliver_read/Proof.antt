@@ -10,6 +10,4 @@ deliver-read-spec =
     (tie.spec
     (λ c κs. tt)
     (λ c κs. tt)
-    (λ c κs. tt)
-    (λ c κs. tt)
-    (λ c. rw (c .with-message .ensures, c .before .read-on .ensures, c .before .before .entry-end .ensures, c .before .before .before .entry-at .ensures)))
+    (λ c t e. rw (c .with-message .ensures t, c .before .read-on .ensures, e)))

@@ -10,6 +10,6 @@ deliver-reference-spec =
     tie.close
     (tie.spec
     (λ c κs. tt)
-    (λ c h q. rw (c .deliver-home .ensures, eq-eqb _ _ (c .before .if1 .taken)))
+    (λ c t e f h q. rw (c .deliver-home .ensures t f, eq-eqb _ _ (c .before .if1 .taken)))
     (λ c κs. tt)
-    (λ c h q. rw (c .deliver-away .ensures h q, ne-eqb _ _ (c .before .if1 .left))))
+    (λ c t e f h q. rw (c .deliver-away .ensures t e h q, ne-eqb _ _ (c .before .if1 .left))))

@@ -12,6 +12,6 @@ deliver-supply-spec =
     (λ c κs. tt)
     (λ c κs. tt)
     (λ c κs. tt)
-    (λ c h q.
+    (λ c t e h q.
     let d = c .before in
-    rw (c .with-cell-and-message .ensures, d .supplied .ensures q (rw (d .before .cell-at .ensures) (cell-weight _ _ h _ _)), d .before .cell-at .ensures)))
+    rw (c .with-cell-and-message .ensures t, d .supplied .ensures q (rw (d .before .cell-at .ensures t e) (cell-weight _ _ h _ _)), d .before .cell-at .ensures t e)))

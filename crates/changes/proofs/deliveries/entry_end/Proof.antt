@@ -10,5 +10,5 @@ entry-end-spec =
     (λ c. search needs)
     (λ c. search needs)
     (λ c κs. tt)
-    (λ c. search needs)
-    (λ c. rw (c .end-kind .ensures, c .before .before .x .given .1)))
+    (λ c t e. rw (c .enum-told .given .1))
+    (λ c t e. rw (c .see .ensures t e, c .before .before .x .given .1)))

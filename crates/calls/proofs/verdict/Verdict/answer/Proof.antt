@@ -1,6 +1,6 @@
 -- `Verdict::answer` meets its contract, by cases. Assumes nothing.
-use Rattle.calls.specs.Verdicts.{answered}
 use borrow.Author.Needs.{needs}
+use Rattle.calls.specs.Verdicts.{answered}
 use Rattle.calls.proofs.verdict.Verdict.answer.Statement.{statement}
 use Rattle.calls.proofs.verdict.Verdict.answer.Tie as tie
 
