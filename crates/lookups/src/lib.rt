@@ -116,9 +116,29 @@ pub struct Seen {
 pub fn see(cells: [Cell; 256], w: u8, c: u8) -> Seen
     ensures { λ r. ⌜ ((t : Tables) → t .cells ≡ cells → r ≡ seen eight t w c) ⌝ }
 {
-    let k = cell_at(cells, w, c);
+    let nothing = Seen {
+        kind: Kind::Free,
+        end: c,
+        held: Kind::Free,
+    };
+    if 8 <= w {
+        return nothing;
+    }
+    if 32 <= c {
+        return nothing;
+    }
+    let x = cells[w as usize * 32 + c as usize];
+    let k = x.kind;
     let end = parts::end_from(k, c);
-    let held = cell_at(cells, w, end);
+    if 32 <= end {
+        return Seen {
+            kind: k,
+            end: end,
+            held: Kind::Free,
+        };
+    }
+    let y = cells[w as usize * 32 + end as usize];
+    let held = y.kind;
     Seen {
         kind: k,
         end: end,
