@@ -10,7 +10,7 @@ ghost use Rattle.tables.specs.Look.{cell, lowestEmptySlot, putCell, putEntry, p
 ghost use Rattle.rules.specs.Answers.{reply};
 ghost use Rattle.rules.specs.Sound.{sound};
 ghost use Rattle.rules.specs.Refusals.{entryToUse};
-ghost use Rattle.rules.specs.Calls.{allFree, closed, gains, byLocation, keeps, sends, byReference, sendsWhole, releases, sent};
+ghost use Rattle.rules.specs.Calls.{allFree, gains, byLocation, keeps, sends, byReference, sendsWhole, releases, sent};
 ghost use Rattle.rules.specs.Calls.{readEx, readAt, askEx, costs, B};
 ghost use Rattle.changes.specs.Effects.{used, changed, made};
 

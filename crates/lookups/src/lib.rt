@@ -167,7 +167,7 @@ pub fn is_safe(entries: [Entry; 128], w: u8, k: Kind) -> bool
 // ---- the lowest cell that is sought
 
 // What is sought among a worker's cells: a free one, the REF to a cell, the EX of an entry.
-pub enum SoughtCell {
+enum SoughtCell {
     FreeCell,
     RefTo(u8),
     ExOf { owner: u8, entry: u8 },
@@ -228,7 +228,7 @@ pub fn ex_naming(cells: [Cell; 256], w: u8, o: u8, e: u8) -> u8
 // ---- the lowest entry that is sought
 
 // What is sought among a worker's entries: a free one, the live one of a cell.
-pub enum SoughtEntry {
+enum SoughtEntry {
     FreeEntry,
     EntryOf(u8),
 }

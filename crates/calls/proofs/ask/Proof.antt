@@ -27,4 +27,9 @@ ask-spec =
     let e = d .before .before .before .before in
     let f = e .before .before .before .before in
     let t = tables (f .before .args .s) in
-    rw (c .replied .ensures, c .before .answer .ensures) (decides eight t _ _ _ _ (rw (c .before .before .before .slot-refusal .ensures, d .is-asking .ensures, d .before .refuse-if .ensures, d .before .before .is-ex .ensures, d .before .before .before .cell-refusals .ensures, e .is-sound .ensures, e .before .lowest-empty-slot .ensures t refl, e .before .before .see .ensures t refl)) (λ h. rw (c .before .before .ask-at .ensures t (e .before .lowest-empty-slot .ensures t refl), e .before .before .see .ensures t refl)))))
+    let look = e .before .before .see .ensures t refl in
+    let slot = e .before .lowest-empty-slot .ensures t refl in
+    rw (c .replied .ensures, c .before .answer .ensures)
+    (decides eight t _ _ _ _
+    (rw (c .before .before .before .slot-refusal .ensures, d .is-asking .ensures, d .before .refuse-if .ensures, d .before .before .is-ex .ensures, d .before .before .before .cell-refusals .ensures, e .is-sound .ensures, slot, look))
+    (λ h. rw (c .before .before .ask-at .ensures t slot, look)))))

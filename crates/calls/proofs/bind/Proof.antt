@@ -26,4 +26,8 @@ bind-spec =
     let e = d .before .before .before .before in
     let f = e .before .before .before .before in
     let t = tables (f .args .s) in
-    rw (c .replied .ensures, c .before .answer .ensures) (decides eight t _ _ _ _ (rw (c .before .before .before .bind-refusals .ensures, d .is-sound .ensures, d .before .both .ensures, d .before .before .is-safe .ensures t refl, d .before .before .before .is-exported .ensures t refl, e .see .ensures t refl, e .before .cell-at .ensures t refl)) (λ h. rw (c .before .before .with-cell .ensures t, e .see .ensures t refl)))))
+    let other = e .see .ensures t refl in
+    rw (c .replied .ensures, c .before .answer .ensures)
+    (decides eight t _ _ _ _
+    (rw (c .before .before .before .bind-refusals .ensures, d .is-sound .ensures, d .before .both .ensures, d .before .before .is-safe .ensures t refl, d .before .before .before .is-exported .ensures t refl, other, e .before .cell-at .ensures t refl))
+    (λ h. rw (c .before .before .with-cell .ensures t, other)))))

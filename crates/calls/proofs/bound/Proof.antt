@@ -21,4 +21,7 @@ bound-spec =
     let d = c .before .before .before .before in
     let e = d .before .before .before .before in
     let t = tables (e .args .s) in
-    rw (c .replied .ensures, c .before .answer .ensures) (decides eight t _ _ _ _ (rw (d .refuse-if .ensures, d .before .is-sound .ensures)) (λ h. rw (c .before .before .unchanged .ensures t, c .before .before .before .all-costs .ensures t refl refl)))))
+    rw (c .replied .ensures, c .before .answer .ensures)
+    (decides eight t _ _ _ _
+    (rw (d .refuse-if .ensures, d .before .is-sound .ensures))
+    (λ h. rw (c .before .before .unchanged .ensures t, c .before .before .before .all-costs .ensures t refl refl)))))

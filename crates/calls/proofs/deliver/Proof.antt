@@ -28,4 +28,9 @@ deliver-spec =
     let e = d .before .before .before .before in
     let f = e .before .before .before .before in
     let t = tables (f .before .before .args .s) in
-    rw (c .replied .ensures, c .before .answer .ensures) (decides eight t _ _ _ _ (rw (c .before .before .before .refuse-if3 .ensures, d .is-ready .ensures t (e .before .read-end .ensures t refl refl), d .before .refuse-if2 .ensures, d .before .before .is-empty .ensures, d .before .before .before .refuse-if .ensures, e .is-sound .ensures, e .before .before .message-at .ensures t refl)) (λ h. rw (c .before .before .deliver-message .ensures t refl refl h (rw (e .before .before .message-at .ensures t refl) (message-weight _ _ h _)) (e .before .read-end .ensures t refl refl), e .before .before .message-at .ensures t refl)))))
+    let m = e .before .before .message-at .ensures t refl in
+    let end = e .before .read-end .ensures t refl refl in
+    rw (c .replied .ensures, c .before .answer .ensures)
+    (decides eight t _ _ _ _
+    (rw (c .before .before .before .refuse-if3 .ensures, d .is-ready .ensures t end, d .before .refuse-if2 .ensures, d .before .before .is-empty .ensures, d .before .before .before .refuse-if .ensures, e .is-sound .ensures, m))
+    (λ h. rw (c .before .before .deliver-message .ensures t refl refl h (rw m (message-weight _ _ h _)) end, m)))))

@@ -27,4 +27,9 @@ drop-spec =
     let e = d .before .before .before .before in
     let f = e .before .before .before .before in
     let t = tables (f .before .before .args .s) in
-    rw (c .replied .ensures, c .before .answer .ensures) (decides eight t _ _ _ _ (rw (c .before .before .before .slot-refusal .ensures, d .refuse-if .ensures, d .before .cell-refusals .ensures, d .before .before .is-sound .ensures, d .before .before .before .is-ex .ensures, e .lowest-empty-slot .ensures t refl, e .before .is-busy .ensures t refl refl (e .before .before .cell-at .ensures t refl), e .before .before .cell-at .ensures t refl)) (λ h. rw (c .before .before .dropped .ensures t (e .lowest-empty-slot .ensures t refl), d .before .before .before .is-ex .ensures, e .before .before .cell-at .ensures t refl)))))
+    let k = e .before .before .cell-at .ensures t refl in
+    let slot = e .lowest-empty-slot .ensures t refl in
+    rw (c .replied .ensures, c .before .answer .ensures)
+    (decides eight t _ _ _ _
+    (rw (c .before .before .before .slot-refusal .ensures, d .refuse-if .ensures, d .before .cell-refusals .ensures, d .before .before .is-sound .ensures, d .before .before .before .is-ex .ensures, slot, e .before .is-busy .ensures t refl refl k, k))
+    (λ h. rw (c .before .before .dropped .ensures t slot, d .before .before .before .is-ex .ensures, k)))))

@@ -27,4 +27,10 @@ export-spec =
     let e = d .before .before .before .before in
     let f = e .before .before .before .before in
     let t = tables (f .before .args .s) in
-    rw (c .replied .ensures, c .before .answer .ensures) (decides eight t _ _ _ _ (rw (c .before .before .before .end-refusals .ensures, d .send-refusals .ensures, d .before .is-sound .ensures, d .before .before .room-at .ensures t refl refl, d .before .before .before .use-entry .ensures t refl, e .is-ex .ensures, e .before .see .ensures t refl)) (λ h. rw (c .before .before .export-end .ensures t h (rw (e .before .see .ensures t refl)) (d .before .before .before .use-entry .ensures t refl) (rw (d .before .before .room-at .ensures t refl refl)), e .is-ex .ensures, e .before .see .ensures t refl)))))
+    let look = e .before .see .ensures t refl in
+    let u = d .before .before .before .use-entry .ensures t refl in
+    let room = d .before .before .room-at .ensures t refl refl in
+    rw (c .replied .ensures, c .before .answer .ensures)
+    (decides eight t _ _ _ _
+    (rw (c .before .before .before .end-refusals .ensures, d .send-refusals .ensures, d .before .is-sound .ensures, room, u, e .is-ex .ensures, look))
+    (λ h. rw (c .before .before .export-end .ensures t h (rw look) u (rw room), e .is-ex .ensures, look)))))

@@ -28,4 +28,10 @@ indirect-spec =
     let e = d .before .before .before .before in
     let f = e .before .before .before .before in
     let t = tables (f .before .before .before .args .s) in
-    rw (c .replied .ensures, c .before .answer .ensures) (decides eight t _ _ _ _ (rw (d .by-location-refusals .ensures, d .before .refuse-if .ensures, d .before .before .is-ex .ensures, d .before .before .before .send-refusals .ensures, e .is-sound .ensures, e .before .room-at .ensures t refl refl, e .before .before .use-entry .ensures t refl, e .before .before .before .see .ensures t refl)) (λ h. rw (c .before .before .by-location .ensures t h (e .before .before .use-entry .ensures t refl) (rw (e .before .room-at .ensures t refl refl)), c .before .before .before .is-safe .ensures t refl, e .before .before .before .see .ensures t refl)))))
+    let look = e .before .before .before .see .ensures t refl in
+    let u = e .before .before .use-entry .ensures t refl in
+    let room = e .before .room-at .ensures t refl refl in
+    rw (c .replied .ensures, c .before .answer .ensures)
+    (decides eight t _ _ _ _
+    (rw (d .by-location-refusals .ensures, d .before .refuse-if .ensures, d .before .before .is-ex .ensures, d .before .before .before .send-refusals .ensures, e .is-sound .ensures, room, u, look))
+    (λ h. rw (c .before .before .by-location .ensures t h u (rw room), c .before .before .before .is-safe .ensures t refl, look)))))

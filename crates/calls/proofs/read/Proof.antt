@@ -24,4 +24,9 @@ read-spec =
     let d = c .before .before .before .before in
     let e = d .before .before .before .before in
     let t = tables (e .before .before .before .args .s) in
-    rw (c .replied .ensures, c .before .answer .ensures) (decides eight t _ _ _ _ (rw (c .before .before .before .slot-refusal .ensures, d .read-sends .ensures, d .before .cell-refusals .ensures, d .before .before .is-sound .ensures, d .before .before .before .lowest-empty-slot .ensures t refl, e .see .ensures t refl)) (λ h. rw (c .before .before .read-at .ensures t (d .before .before .before .lowest-empty-slot .ensures t refl), e .see .ensures t refl)))))
+    let look = e .see .ensures t refl in
+    let slot = d .before .before .before .lowest-empty-slot .ensures t refl in
+    rw (c .replied .ensures, c .before .answer .ensures)
+    (decides eight t _ _ _ _
+    (rw (c .before .before .before .slot-refusal .ensures, d .read-sends .ensures, d .before .cell-refusals .ensures, d .before .before .is-sound .ensures, slot, look))
+    (λ h. rw (c .before .before .read-at .ensures t slot, look)))))

@@ -28,4 +28,9 @@ transfer-spec =
     let e = d .before .before .before .before in
     let f = e .before .before .before .before in
     let t = tables (f .before .before .before .args .s) in
-    rw (c .replied .ensures, c .before .answer .ensures) (decides eight t _ _ _ _ (rw (c .before .before .before .room-refusals .ensures, d .refuse-if2 .ensures, d .before .refuse-if .ensures, d .before .before .is-ex .ensures, d .before .before .before .send-refusals .ensures, e .is-sound .ensures, e .before .room-at .ensures t refl refl, e .before .before .is-busy .ensures t refl refl (e .before .before .before .cell-at .ensures t refl), e .before .before .before .cell-at .ensures t refl)) (λ h. rw (c .before .before .transferred .ensures t (rw (e .before .room-at .ensures t refl refl)), e .before .before .before .cell-at .ensures t refl)))))
+    let k = e .before .before .before .cell-at .ensures t refl in
+    let room = e .before .room-at .ensures t refl refl in
+    rw (c .replied .ensures, c .before .answer .ensures)
+    (decides eight t _ _ _ _
+    (rw (c .before .before .before .room-refusals .ensures, d .refuse-if2 .ensures, d .before .refuse-if .ensures, d .before .before .is-ex .ensures, d .before .before .before .send-refusals .ensures, e .is-sound .ensures, room, e .before .before .is-busy .ensures t refl refl k, k))
+    (λ h. rw (c .before .before .transferred .ensures t (rw room), k)))))

@@ -6,10 +6,9 @@ use borrow.Author.Needs.{needs}
 use lib.ListN.{length}
 use Rattle.numbers.specs.ListLaws.{total-below}
 use Rattle.tables.specs.declared.Message.the-variants.{Empty}
-use Rattle.tables.specs.Machine.{eight}
 use Rattle.tables.specs.Look.{messageAt}
 use Rattle.passing.specs.Summing.{Summing, add-start, add-step, add-end}
-use Rattle.rules.specs.Calls.{costs, closed, B}
+use Rattle.rules.specs.Calls.{costs, B}
 use Rattle.changes.specs.Costs.{costs-small, sum-small}
 use Rattle.changes.proofs.all_costs.Statement.{statement}
 use Rattle.changes.proofs.all_costs.Tie as tie
