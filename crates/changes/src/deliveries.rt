@@ -7,7 +7,7 @@ ghost use Rattle.tables.specs.Machine.{Tables, eight};
 ghost use Rattle.tables.specs.Parts.{exWeight, entryWeight};
 ghost use Rattle.rules.specs.Sound.{sound};
 ghost use Rattle.rules.specs.Refusals.{entryEnd};
-ghost use Rattle.rules.specs.Deliver.{takenOff, cellOf, joined, known, supplied, grown, readOnEx, readOn, arrives, deliverMessage};
+ghost use Rattle.rules.specs.Deliver.{takenOff, joined, known, supplied, grown, readOnEx, readOn, arrives, deliverMessage};
 ghost use Rattle.rules.specs.Deliver.{deliverHome, deliverAway, deliverRelease, deliverRead, deliverAnswer, deliverSupply, deliverAsk};
 ghost use Rattle.tables.specs.Parts.{messageWeight};
 ghost use Rattle.tables.specs.Look.{entry};
@@ -49,16 +49,6 @@ fn taken_off(w: u32, x: Holding) -> Holding
                 }
             }
         }
-    }
-}
-
-// The cell that an entry names.
-fn cell_of(x: Holding) -> u8
-    ensures { λ r. ⌜ r ≡ cellOf x ⌝ }
-{
-    match x {
-        Holding::Unused => 0,
-        Holding::Live { cell, .. } => cell,
     }
 }
 
@@ -264,7 +254,7 @@ fn deliver_home(entries: [Entry; 128], k: u8, o: u8, e: u8, w: u32) -> Effect
     ensures { λ r. ⌜ ((t : Tables) → t .entries ≡ entries → made eight t r ≡ deliverHome eight t k o e w) ⌝ }
 {
     let x = lookups::entry_at(entries, o, e);
-    let value = Outcome::Done(cell_of(x) as u32);
+    let value = Outcome::Done(parts::cell_of(x) as u32);
     let left = taken_off(w, x);
     with_entry_and_message(value, o, e, left, k, Message::Empty)
 }

@@ -12,12 +12,12 @@ use Rattle.tables.specs.declared.Holding.{Holding}
 use Rattle.tables.specs.declared.Holding.the-variants.{Unused, Live}
 use Rattle.tables.specs.declared.Place.{Place}
 use Rattle.tables.specs.Machine.{Machine, Tables}
-use Rattle.tables.specs.Parts.{onEx, isFree, isVar, isVal, isEx, exNames, namedBy, endFrom, isUnused, isLive, isTainted, entryNames}
+use Rattle.tables.specs.Parts.{onEx, isFree, isVar, isVal, isEx, exNames, namedBy, endFrom, isUnused, isLive, isTainted, entryNames, cellOf}
 use Rattle.tables.specs.Look.{kindAt, holdingAt, cell, entry, end, endKind, safe}
 use Rattle.tables.specs.Laws.{entry-in}
 use Rattle.lookups.specs.Laws.{cells-count}
 use Rattle.rules.specs.Sound.{exesNaming, cellNames, entriesNaming, entryNamesCell}
-use Rattle.places.specs.Places.{namesPlace, cellOf, entryThere}
+use Rattle.places.specs.Places.{namesPlace, entryThere}
 
 -- a cell names what it may: `there` is what a REF names, x what an EX names, and so many EX name that entry
 abbrev pub cellNamesSeen : ℕ → Kind → Holding → ℕ → Kind → Bool

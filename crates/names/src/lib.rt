@@ -114,7 +114,7 @@ pub fn point_3(s: State) -> bool
             continue;
         }
         let w = (i / 16) as u8;
-        let c = places::cell_of(holding);
+        let c = parts::cell_of(holding);
         let j = places::cell_index(w, c);
         let y = s.cells[j];
         let there = y.kind;

@@ -1,7 +1,7 @@
 // Tests of one part of the state, and what it names and weighs: what a cell, an entry or a slot holds.
 ghost use mathlib.Core.Path.{_≡_};
 ghost use Rattle.tables.specs.Parts.{isFree, isVar, isVal, isEx, readingOf, isReading, isAsking, exNames, namedBy, exWeight, refNames, endFrom, isAt};
-ghost use Rattle.tables.specs.Parts.{isUnused, isLive, isTainted, entryNames, entryWeight, isEmpty, goesTo};
+ghost use Rattle.tables.specs.Parts.{isUnused, isLive, isTainted, entryNames, cellOf, entryWeight, isEmpty, goesTo};
 use numbers::both;
 use tables::Holding;
 use tables::Kind;
@@ -194,6 +194,16 @@ pub fn entry_names(c: u8, x: Holding) -> bool
     match x {
         Holding::Unused => false,
         Holding::Live { cell, .. } => cell == c,
+    }
+}
+
+// The cell that an entry names, 0 where it is free.
+pub fn cell_of(x: Holding) -> u8
+    ensures { λ r. ⌜ r ≡ cellOf x ⌝ }
+{
+    match x {
+        Holding::Unused => 0,
+        Holding::Live { cell, .. } => cell,
     }
 }
 

@@ -6,7 +6,7 @@ use lib.Dec.{ltb}
 use Rattle.tables.specs.declared.Kind.{Kind}
 use Rattle.tables.specs.declared.Kind.the-variants.{Free}
 use Rattle.tables.specs.declared.Holding.{Holding}
-use Rattle.tables.specs.declared.Holding.the-variants.{Unused, Live}
+use Rattle.tables.specs.declared.Holding.the-variants.{Unused}
 use Rattle.tables.specs.declared.Message.{Message}
 use Rattle.tables.specs.declared.Message.the-variants.{Empty, Reference, Release, Read, Answer, Ask, Supply}
 use Rattle.tables.specs.declared.Place.{Place}
@@ -19,11 +19,6 @@ use Rattle.tables.specs.Look.{kindAt, holdingAt, cell, entry}
 abbrev pub namesPlace : Place → Kind → Bool
 namesPlace Nowhere k = false
 namesPlace (At o e) k = exNames o e k
-
--- the cell that a live entry names, 0 where it is free
-abbrev pub cellOf : Holding → ℕ
-cellOf Unused = 0
-cellOf (Live c n t) = c
 
 -- the worker whose EX waits for a message, and the number of that cell; 0 where none waits
 abbrev pub waiterOf : Message → ℕ

@@ -4,7 +4,7 @@ ghost use mathlib.Core.Path.{_≡_};
 ghost use Prim.Native.Nat.{_<_};
 ghost use Rattle.tables.specs.declared.Place.the-variants.{At};
 ghost use Rattle.tables.specs.Machine.{eight};
-ghost use Rattle.places.specs.Places.{cellIndex, cellSeen, placeIndex, placeSeen, namesPlace, cellOf, waiterOf, cellFor};
+ghost use Rattle.places.specs.Places.{cellIndex, cellSeen, placeIndex, placeSeen, namesPlace, waiterOf, cellFor};
 use tables::Holding;
 use tables::Kind;
 use tables::Message;
@@ -90,16 +90,6 @@ pub fn names_place(p: Place, k: Kind) -> bool
     match p {
         Place::Nowhere => false,
         Place::At { owner, entry } => parts::ex_names(owner, entry, k),
-    }
-}
-
-// The cell that a live entry names, 0 where it is free.
-pub fn cell_of(x: Holding) -> u8
-    ensures { λ r. ⌜ r ≡ cellOf x ⌝ }
-{
-    match x {
-        Holding::Unused => 0,
-        Holding::Live { cell, .. } => cell,
     }
 }
 

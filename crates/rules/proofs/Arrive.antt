@@ -22,11 +22,11 @@ use Rattle.tables.specs.declared.Message.the-variants.{Empty, Reference, Releas
 use Rattle.tables.specs.declared.Place.{Place}
 use Rattle.tables.specs.declared.Place.the-variants.{Nowhere, At}
 use Rattle.tables.specs.Machine.{Machine, Tables}
-use Rattle.tables.specs.Parts.{isFree, isVar, isVal, isReading, isAsking, exNames, namedBy, isLive, isTainted, entryNames, entryWeight, isEmpty, goesTo}
+use Rattle.tables.specs.Parts.{isFree, isVar, isVal, isReading, isAsking, exNames, namedBy, isLive, isTainted, entryNames, entryWeight, isEmpty, goesTo, cellOf}
 use Rattle.tables.specs.Look.{cell, entry, end, endKind, exNaming, lowestFreeCell, booked, freeCells, message, putCell, putEntry, putMessage}
 use Rattle.rules.specs.Sound.{readsFor, asksFor, follow, messageHolds, held}
 use Rattle.rules.specs.Refusals.{entryEnd, ready, deliverRefusals}
-use Rattle.rules.specs.Deliver.{cellOf, takenOff, joined, known, supplied, grown, readOn, arrives, deliverHome, deliverAway, deliverRelease, deliverRead, deliverAnswer, deliverSupply, deliverAsk, deliverMessage, deliver}
+use Rattle.rules.specs.Deliver.{takenOff, joined, known, supplied, grown, readOn, arrives, deliverHome, deliverAway, deliverRelease, deliverRead, deliverAnswer, deliverSupply, deliverAsk, deliverMessage, deliver}
 use Rattle.rules.specs.Machines.{Laws}
 use Rattle.rules.specs.Facts.{EntryFact, MessageFact, ahead, ReadAhead, EndsIn, KnownFact, AnswerFact}
 use Rattle.rules.proofs.Inside.{cell-inside, entry-inside, message-total}

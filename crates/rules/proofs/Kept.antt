@@ -19,10 +19,9 @@ use Rattle.tables.specs.declared.Holding.the-variants.{Unused, Live}
 use Rattle.tables.specs.declared.Message.{Message}
 use Rattle.tables.specs.declared.Message.the-variants.{Empty, Reference, Release, Read, Answer, Ask, Supply}
 use Rattle.tables.specs.Machine.{Machine, Tables}
-use Rattle.tables.specs.Parts.{onEx, readingOf, isFree, isVar, isVal, isEx, isReading, isAsking, exNames, namedBy, endFrom, isLive, isTainted, entryNames, entryWeight, goesTo}
+use Rattle.tables.specs.Parts.{onEx, readingOf, isFree, isVar, isVal, isEx, isReading, isAsking, exNames, namedBy, endFrom, isLive, isTainted, entryNames, entryWeight, goesTo, cellOf}
 use Rattle.tables.specs.Look.{cell, entry, end, endKind, safe, exported, busy, booked, message}
 use Rattle.rules.specs.Sound.{readsFor, asksFor, varValOrSafe, readsOf, asksOf, cellHolds, messageHolds, held}
-use Rattle.rules.specs.Deliver.{cellOf}
 use Rattle.rules.specs.Facts.{CellFact, EntryFact, MessageFact, Facts}
 use Rattle.rules.proofs.Named.{eq-both, ex-not-var, the-ex, the-ex-of, ExOf}
 use Rattle.rules.proofs.Busy.{exported-by, referred-by, busy-exported, busy-referred, busy-reading, busy-asking}

@@ -23,11 +23,10 @@ use Rattle.tables.specs.declared.Holding.the-variants.{Unused}
 use Rattle.tables.specs.declared.Message.{Message}
 use Rattle.tables.specs.declared.Message.the-variants.{Empty}
 use Rattle.tables.specs.Machine.{Machine, Tables}
-use Rattle.tables.specs.Parts.{readingOf, isFree, isVar, isVal, isReading, isAsking, exNames, isLive, isTainted, entryNames, entryWeight, goesTo}
+use Rattle.tables.specs.Parts.{readingOf, isFree, isVar, isVal, isReading, isAsking, exNames, isLive, isTainted, entryNames, entryWeight, goesTo, cellOf}
 use Rattle.tables.specs.Look.{cell, entry, exported, busy, booked, freeCells, message, putCell, putEntry, putMessage}
 use Rattle.tables.specs.Laws.{cell-in, entry-in}
 use Rattle.rules.specs.Sound.{readsFor, asksFor, cellHolds, messageHolds}
-use Rattle.rules.specs.Deliver.{cellOf}
 use Rattle.rules.specs.Machines.{Laws}
 use Rattle.rules.specs.Facts.{CellFact, EntryFact, MessageFact, Facts}
 use Rattle.rules.proofs.Inside.{cell-inside}

@@ -13,11 +13,10 @@ use Rattle.tables.specs.declared.Holding.the-variants.{Unused, Live}
 use Rattle.tables.specs.declared.Place.{Place}
 use Rattle.tables.specs.declared.Place.the-variants.{Nowhere, At}
 use Rattle.tables.specs.Machine.{Machine, Tables}
-use Rattle.tables.specs.Parts.{isFree, isVar, isEx, namedBy, isLive, entryNames}
+use Rattle.tables.specs.Parts.{isFree, isVar, isEx, namedBy, isLive, entryNames, cellOf}
 use Rattle.tables.specs.Look.{cell, entry, endKind, safe, exported}
 use Rattle.rules.specs.Sound.{follow, through}
 use Rattle.rules.specs.Refusals.{entryEnd}
-use Rattle.rules.specs.Deliver.{cellOf}
 use Rattle.rules.specs.Facts.{CellFact, Facts, ahead, EndsIn}
 use Rattle.rules.proofs.Named.{nowhere-at, the-live, IsLive}
 use Rattle.rules.proofs.Busy.{exported-by}

@@ -19,13 +19,12 @@ use Rattle.tables.specs.declared.Message.{Message}
 use Rattle.tables.specs.declared.Message.the-variants.{Empty, Reference, Read, Ask}
 use Rattle.tables.specs.declared.Outcome.the-variants.{Waiting}
 use Rattle.tables.specs.Machine.{Machine, Tables}
-use Rattle.tables.specs.Parts.{onEx, isFree, isVar, isVal, isEx, isAsking, exNames, namedBy, exWeight, endFrom, isLive, isTainted, entryNames, entryWeight}
+use Rattle.tables.specs.Parts.{onEx, isFree, isVar, isVal, isEx, isAsking, exNames, namedBy, exWeight, endFrom, isLive, isTainted, entryNames, entryWeight, cellOf}
 use Rattle.tables.specs.Look.{cell, entry, end, endKind, safe, entryOf, exported, lowestFreeEntry, lowestEmptySlot, booked, freeCells, message, putCell, putEntry, putMessage}
 use Rattle.rules.specs.Answers.{checked}
 use Rattle.rules.specs.Sound.{varValOrSafe}
 use Rattle.rules.specs.Refusals.{entryToUse, sendRefusals, byReferenceRefusals, byLocationRefusals, indirectRefusals, readSends, readRefusals, askRefusals}
 use Rattle.rules.specs.Calls.{gains, byLocation, keeps, sends, byReference, export, indirect, readAt, read, askEx, ask}
-use Rattle.rules.specs.Deliver.{cellOf}
 use Rattle.rules.specs.Machines.{Laws}
 use Rattle.rules.specs.Facts.{CellFact, EntryFact, ahead}
 use Rattle.rules.proofs.Inside.{cell-inside}

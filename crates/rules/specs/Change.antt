@@ -14,10 +14,9 @@ use Rattle.tables.specs.declared.Holding.{Holding}
 use Rattle.tables.specs.declared.Message.{Message}
 use Rattle.tables.specs.declared.Place.the-variants.{At}
 use Rattle.tables.specs.Machine.{Machine, Tables}
-use Rattle.tables.specs.Parts.{onEx, isFree, isVar, isVal, isReading, isAsking, exNames, isLive, isTainted, entryNames, entryWeight, goesTo}
+use Rattle.tables.specs.Parts.{onEx, isFree, isVar, isVal, isReading, isAsking, exNames, isLive, isTainted, entryNames, entryWeight, goesTo, cellOf}
 use Rattle.tables.specs.Look.{cell, entry, safe, exported, busy, booked, freeCells, message}
 use Rattle.rules.specs.Sound.{readsFor, asksFor, follow, cellHolds, messageHolds}
-use Rattle.rules.specs.Deliver.{cellOf}
 use Rattle.rules.specs.Facts.{CellFact, EntryFact, MessageFact, Facts, ReadAhead, Reads, KnownFact, AnswerFact}
 
 -- the cell c of worker w, the entry e of worker o and the slot i: what stood there, and what stands there then

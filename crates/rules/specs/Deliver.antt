@@ -12,7 +12,7 @@ use Rattle.tables.specs.declared.Message.{Message}
 use Rattle.tables.specs.declared.Message.the-variants.{Empty, Reference, Release, Read, Answer, Ask, Supply}
 use Rattle.tables.specs.declared.Outcome.the-variants.{Done}
 use Rattle.tables.specs.Machine.{Machine, Tables}
-use Rattle.tables.specs.Parts.{onEx, entryWeight}
+use Rattle.tables.specs.Parts.{onEx, cellOf, entryWeight}
 use Rattle.tables.specs.Look.{cell, entry, exNaming, lowestFreeCell, message, putCell, putEntry, putMessage}
 use Rattle.rules.specs.Answers.{Result, checked}
 use Rattle.rules.specs.Refusals.{entryEnd, deliverRefusals}
@@ -21,11 +21,6 @@ use Rattle.rules.specs.Refusals.{entryEnd, deliverRefusals}
 abbrev pub takenOff : ℕ → Holding → Holding
 takenOff w Unused = Unused
 takenOff w (Live c n t) = cond (leb n w) Unused (Live c (n - w) t)
-
--- the cell that an entry names
-abbrev pub cellOf : Holding → ℕ
-cellOf Unused = 0
-cellOf (Live c n t) = c
 
 -- "it joins the EX naming that entry, or the lowest free cell becomes such an EX, idle"
 abbrev pub joined : ℕ → ℕ → ℕ → Kind → Kind

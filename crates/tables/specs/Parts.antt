@@ -111,6 +111,11 @@ abbrev pub entryNames : ℕ → Holding → Bool
 entryNames c Unused = false
 entryNames c (Live d w t) = eqb d c
 
+-- the cell that an entry names, 0 where it is free
+abbrev pub cellOf : Holding → ℕ
+cellOf Unused = 0
+cellOf (Live c w t) = c
+
 -- the weight of an entry, 0 where it is free
 abbrev pub entryWeight : Holding → ℕ
 entryWeight Unused = 0

@@ -19,12 +19,12 @@ use Rattle.tables.specs.declared.Holding.the-variants.{Unused, Live}
 use Rattle.tables.specs.declared.Place.{Place}
 use Rattle.tables.specs.declared.Place.the-variants.{Nowhere, At}
 use Rattle.tables.specs.Machine.{Machine, Tables}
-use Rattle.tables.specs.Parts.{namedBy, endFrom, isAt, isUnused}
+use Rattle.tables.specs.Parts.{namedBy, endFrom, isAt, isUnused, cellOf}
 use Rattle.tables.specs.Look.{holdingAt, cell, entry, end, endKind}
 use Rattle.tables.specs.Laws.{entry-in}
 use Rattle.rules.specs.Sound.{through, follow, reached}
 use Rattle.passing.specs.Walking.{walk-cong}
-use Rattle.places.specs.Places.{placeIndex, cellOf}
+use Rattle.places.specs.Places.{placeIndex}
 use Rattle.waits.specs.declared.Step.{Step}
 
 abbrev pub nextAt : List Step → ℕ → Place

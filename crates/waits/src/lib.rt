@@ -105,7 +105,7 @@ fn steps_of(s: State) -> Steps
             continue;
         }
         let w = (i / 16) as u8;
-        let c = places::cell_of(holding);
+        let c = parts::cell_of(holding);
         let j = places::cell_index(w, c);
         let y = s.cells[j];
         let there = y.kind;
