@@ -15,7 +15,7 @@ use Rattle.tables.specs.declared.Place.the-variants.{At}
 use Rattle.tables.specs.Machine.{Tables, eight, tables, state}
 use Rattle.tables.specs.Parts.{isLive, entryWeight}
 use Rattle.tables.specs.Look.{cell, entry, message}
-use Rattle.rules.specs.Answers.{Result, reply, succeeds}
+use Rattle.rules.specs.Answers.{reply, succeeds}
 use Rattle.rules.specs.Sound.{held, sound}
 use Rattle.rules.specs.Calls.{start, B}
 use Rattle.rules.specs.Deliver.{deliver}

@@ -115,11 +115,8 @@ pub fn read_sends(k: Kind) -> bool
     ensures { λ r. ⌜ r ≡ onEx false (λ o e n st a. readSends st) k ⌝ }
 {
     match k {
-        Kind::Free => false,
-        Kind::Var => false,
-        Kind::Val(_) => false,
-        Kind::Ref(_) => false,
         Kind::Ex { status, .. } => idle(status),
+        _ => false,
     }
 }
 

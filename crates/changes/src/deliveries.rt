@@ -64,10 +64,6 @@ fn joined(o: u8, e: u8, w: u32, k: Kind) -> Kind
         asking: false,
     };
     match k {
-        Kind::Free => fresh,
-        Kind::Var => fresh,
-        Kind::Val(_) => fresh,
-        Kind::Ref(_) => fresh,
         Kind::Ex {
             owner,
             entry,
@@ -81,6 +77,7 @@ fn joined(o: u8, e: u8, w: u32, k: Kind) -> Kind
             status: status,
             asking: asking,
         },
+        _ => fresh,
     }
 }
 
@@ -89,10 +86,6 @@ fn known(v: u32, k: Kind) -> Kind
     ensures { λ r. ⌜ r ≡ known v k ⌝ }
 {
     match k {
-        Kind::Free => k,
-        Kind::Var => k,
-        Kind::Val(_) => k,
-        Kind::Ref(_) => k,
         Kind::Ex {
             owner,
             entry,
@@ -106,6 +99,7 @@ fn known(v: u32, k: Kind) -> Kind
             status: Status::Known(v),
             asking: asking,
         },
+        _ => k,
     }
 }
 
@@ -114,10 +108,6 @@ fn supplied(w: u32, k: Kind) -> Kind
     ensures { λ r. ⌜ (w ≤ 1048576 → exWeight k ≤ 1048576 → r ≡ supplied w k) ⌝ }
 {
     match k {
-        Kind::Free => k,
-        Kind::Var => k,
-        Kind::Val(_) => k,
-        Kind::Ref(_) => k,
         Kind::Ex {
             owner,
             entry,
@@ -131,6 +121,7 @@ fn supplied(w: u32, k: Kind) -> Kind
             status: status,
             asking: false,
         },
+        _ => k,
     }
 }
 

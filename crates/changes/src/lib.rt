@@ -287,10 +287,6 @@ fn keeps(k: Kind) -> Kind
     ensures { λ r. ⌜ r ≡ keeps eight k ⌝ }
 {
     match k {
-        Kind::Free => k,
-        Kind::Var => k,
-        Kind::Val(_) => k,
-        Kind::Ref(_) => k,
         Kind::Ex {
             owner,
             entry,
@@ -304,6 +300,7 @@ fn keeps(k: Kind) -> Kind
             status: status,
             asking: asking,
         },
+        _ => k,
     }
 }
 
@@ -311,10 +308,6 @@ fn sends(to: u8, k: Kind) -> Message
     ensures { λ r. ⌜ r ≡ sends eight to k ⌝ }
 {
     match k {
-        Kind::Free => Message::Empty,
-        Kind::Var => Message::Empty,
-        Kind::Val(_) => Message::Empty,
-        Kind::Ref(_) => Message::Empty,
         Kind::Ex {
             owner,
             entry,
@@ -326,6 +319,7 @@ fn sends(to: u8, k: Kind) -> Message
             entry: entry,
             weight: weight / 2,
         },
+        _ => Message::Empty,
     }
 }
 
@@ -353,10 +347,6 @@ fn sends_whole(to: u8, k: Kind) -> Message
     ensures { λ r. ⌜ r ≡ sendsWhole to k ⌝ }
 {
     match k {
-        Kind::Free => Message::Empty,
-        Kind::Var => Message::Empty,
-        Kind::Val(_) => Message::Empty,
-        Kind::Ref(_) => Message::Empty,
         Kind::Ex {
             owner,
             entry,
@@ -368,6 +358,7 @@ fn sends_whole(to: u8, k: Kind) -> Message
             entry: entry,
             weight: weight,
         },
+        _ => Message::Empty,
     }
 }
 
@@ -386,10 +377,6 @@ fn releases(k: Kind) -> Message
     ensures { λ r. ⌜ r ≡ releases k ⌝ }
 {
     match k {
-        Kind::Free => Message::Empty,
-        Kind::Var => Message::Empty,
-        Kind::Val(_) => Message::Empty,
-        Kind::Ref(_) => Message::Empty,
         Kind::Ex {
             owner,
             entry,
@@ -400,6 +387,7 @@ fn releases(k: Kind) -> Message
             entry: entry,
             weight: weight,
         },
+        _ => Message::Empty,
     }
 }
 
@@ -498,10 +486,6 @@ pub fn ask_at(w: u8, x: u8, k: Kind, slot: u8) -> Effect
     ensures { λ r. ⌜ ((t : Tables) → slot ≡ lowestEmptySlot eight t → made eight t r ≡ onEx (record { outcome = Waiting; after = t }) (askEx eight t w x) k) ⌝ }
 {
     match k {
-        Kind::Free => unchanged(Outcome::Waiting),
-        Kind::Var => unchanged(Outcome::Waiting),
-        Kind::Val(_) => unchanged(Outcome::Waiting),
-        Kind::Ref(_) => unchanged(Outcome::Waiting),
         Kind::Ex {
             owner,
             entry,
@@ -509,6 +493,7 @@ pub fn ask_at(w: u8, x: u8, k: Kind, slot: u8) -> Effect
             status,
             asking,
         } => ask_ex(w, x, owner, entry, weight, status, asking, slot),
+        _ => unchanged(Outcome::Waiting),
     }
 }
 

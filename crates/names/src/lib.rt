@@ -80,11 +80,8 @@ fn is_safe(w: u8, k: Kind, entry: Holding) -> bool
     ensures { λ r. ⌜ r ≡ safeSeen w entry k ⌝ }
 {
     match k {
-        Kind::Free => false,
-        Kind::Var => false,
-        Kind::Val(_) => false,
-        Kind::Ref(_) => false,
         Kind::Ex { owner, .. } => both(owner < w, !parts::is_tainted(entry)),
+        _ => false,
     }
 }
 

@@ -25,16 +25,13 @@ fn cell_holds(o: u8, e: u8, k: Kind) -> u32
     ensures { λ r. ⌜ ((s : Tables) → r ≡ cellHolds eight s o e k) ⌝ }
 {
     match k {
-        Kind::Free => 0,
-        Kind::Var => 0,
-        Kind::Val(_) => 0,
-        Kind::Ref(_) => 0,
         Kind::Ex {
             owner,
             entry,
             weight,
             ..
         } => weight_if(both(owner == o, entry == e), weight),
+        _ => 0,
     }
 }
 

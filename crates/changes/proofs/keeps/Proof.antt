@@ -1,5 +1,6 @@
--- `changes::keeps` meets its contract, by cases; one arm reads the fields of the EX. Assumes nothing.
+-- `changes::keeps` meets its contract: one arm reads the fields of the EX. Assumes nothing.
 use borrow.Author.Needs.{needs}
+use Rattle.parts.proofs.Others.{not-ex}
 use Rattle.changes.proofs.keeps.Statement.{statement}
 use Rattle.changes.proofs.keeps.Tie as tie
 
@@ -9,12 +10,5 @@ keeps-spec =
     (tie.spec
     (λ c. search needs)
     (λ c. search needs)
-    (λ c. search needs)
-    (λ c. search needs)
-    (λ c. search needs)
-    (λ c. search needs)
-    (λ c. search needs)
-    (λ c. search needs)
-    (λ c. search needs)
-    (λ c. search needs)
-    (λ c. rw (c .before .k .given .1)))
+    (λ c. rw (c .before .k .given .1))
+    (λ c. not-ex _ (c .before .args .k) (c .match .keys2)))

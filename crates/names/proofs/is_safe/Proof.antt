@@ -1,5 +1,6 @@
--- `names::is_safe` meets its contract: by cases. Assumes nothing.
+-- `names::is_safe` meets its contract: one arm reads the owner of the EX. Assumes nothing.
 use borrow.Author.Needs.{needs}
+use Rattle.parts.proofs.Others.{not-ex}
 use Rattle.names.proofs.is_safe.Statement.{statement}
 use Rattle.names.proofs.is_safe.Tie as tie
 
@@ -8,14 +9,7 @@ is-safe-spec =
     tie.close
     (tie.spec
     (λ c. search needs)
-    (λ c. search needs)
-    (λ c. search needs)
-    (λ c. search needs)
-    (λ c. search needs)
     (λ c κs. tt)
     (λ c κs. tt)
-    (λ c. search needs)
-    (λ c. search needs)
-    (λ c. search needs)
-    (λ c. search needs)
-    (λ c. rw (c .both .ensures, c .before .is-tainted .ensures, c .before .before .before .k .given .1)))
+    (λ c. rw (c .both .ensures, c .before .is-tainted .ensures, c .before .before .before .k .given .1))
+    (λ c. not-ex _ (c .before .args .k) (c .match .keys2)))

@@ -1,5 +1,6 @@
--- `weights::cell_holds` meets its contract: by cases. Assumes nothing.
+-- `weights::cell_holds` meets its contract: one arm reads the weight of the EX. Assumes nothing.
 use borrow.Author.Needs.{needs}
+use Rattle.parts.proofs.Others.{not-ex}
 use Rattle.weights.proofs.cell_holds.Statement.{statement}
 use Rattle.weights.proofs.cell_holds.Tie as tie
 
@@ -8,14 +9,7 @@ cell-holds-spec =
     tie.close
     (tie.spec
     (λ c. search needs)
-    (λ c. search needs)
-    (λ c. search needs)
-    (λ c. search needs)
-    (λ c. search needs)
     (λ c κs. tt)
     (λ c κs. tt)
-    (λ c s. search needs)
-    (λ c s. search needs)
-    (λ c s. search needs)
-    (λ c s. search needs)
-    (λ c s. rw (c .weight-if .ensures, c .before .both .ensures, c .before .before .before .k .given .1)))
+    (λ c s. rw (c .weight-if .ensures, c .before .both .ensures, c .before .before .before .k .given .1))
+    (λ c s. not-ex _ (c .before .args .k) (c .match .keys2)))

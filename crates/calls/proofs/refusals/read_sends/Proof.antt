@@ -1,5 +1,6 @@
--- `refusals::read_sends` meets its contract, by cases; of an EX the status is tested. Assumes nothing.
+-- `refusals::read_sends` meets its contract: one arm reads the status of the EX. Assumes nothing.
 use borrow.Author.Needs.{needs}
+use Rattle.parts.proofs.Others.{not-ex}
 use Rattle.calls.proofs.refusals.read_sends.Statement.{statement}
 use Rattle.calls.proofs.refusals.read_sends.Tie as tie
 
@@ -8,13 +9,6 @@ read-sends-spec =
     tie.close
     (tie.spec
     (λ c. search needs)
-    (λ c. search needs)
-    (λ c. search needs)
-    (λ c. search needs)
-    (λ c. search needs)
     (λ c κs. tt)
-    (λ c. search needs)
-    (λ c. search needs)
-    (λ c. search needs)
-    (λ c. search needs)
-    (λ c. rw (c .idle .ensures, c .before .before .k .given .1)))
+    (λ c. rw (c .idle .ensures, c .before .before .k .given .1))
+    (λ c. not-ex _ (c .before .args .k) (c .match .keys2)))

@@ -1,5 +1,6 @@
--- `changes::deliveries::known` meets its contract, by cases; one arm reads the fields of the EX. Assumes nothing.
+-- `changes::deliveries::known` meets its contract: one arm reads the fields of the EX. Assumes nothing.
 use borrow.Author.Needs.{needs}
+use Rattle.parts.proofs.Others.{not-ex}
 use Rattle.changes.proofs.deliveries.known.Statement.{statement}
 use Rattle.changes.proofs.deliveries.known.Tie as tie
 
@@ -8,12 +9,5 @@ known-spec =
     tie.close
     (tie.spec
     (λ c. search needs)
-    (λ c. search needs)
-    (λ c. search needs)
-    (λ c. search needs)
-    (λ c. search needs)
-    (λ c. search needs)
-    (λ c. search needs)
-    (λ c. search needs)
-    (λ c. search needs)
-    (λ c. rw (c .before .k .given .1)))
+    (λ c. rw (c .before .k .given .1))
+    (λ c. not-ex _ (c .before .args .k) (c .match .keys2)))

@@ -1,5 +1,6 @@
--- `changes::deliveries::supplied` meets its contract, by cases; the sum is of weights that do not pass the ceiling. Assumes nothing.
+-- `changes::deliveries::supplied` meets its contract: the sum is of weights that do not pass the ceiling. Assumes nothing.
 use borrow.Author.Needs.{needs}
+use Rattle.parts.proofs.Others.{not-ex}
 use Rattle.changes.proofs.deliveries.supplied.Statement.{statement}
 use Rattle.changes.proofs.deliveries.supplied.Tie as tie
 
@@ -8,15 +9,8 @@ supplied-spec =
     tie.close
     (tie.spec
     (λ c. search needs)
-    (λ c. search needs)
-    (λ c. search needs)
-    (λ c. search needs)
-    (λ c. search needs)
     (λ c κs. tt)
-    (λ c p q. rw (c .enum-told .given .1))
-    (λ c p q. rw (c .enum-told2 .given .1))
-    (λ c p q. rw (c .enum-told3 .given .1))
-    (λ c p q. rw (c .enum-told4 .given .1))
     (λ c p q.
     let is = c .before .before .k .given .1 in
-    rw (c .add-weights .ensures (rw is at q) p, is)))
+    rw (c .add-weights .ensures (rw is at q) p, is))
+    (λ c p q. not-ex _ (c .before .args .k) (c .match .keys2)))
