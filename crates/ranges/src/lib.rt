@@ -77,6 +77,7 @@ fn message_in_range(p: u8, m: Message) -> bool
     }
 }
 
+// A free cell is in range; any other stands at a worker below P.
 fn cells_in_range(p: u8, cells: [Cell; 256]) -> bool
     ensures { λ r. ⌜ ((s : Tables) → s .p ≡ p → s .cells ≡ cells → r ≡ eachCell eight s (cellInRange eight s)) ⌝ }
 {
@@ -93,6 +94,7 @@ fn cells_in_range(p: u8, cells: [Cell; 256]) -> bool
     good
 }
 
+// The same of entries.
 fn entries_in_range(p: u8, entries: [Entry; 128]) -> bool
     ensures { λ r. ⌜ ((s : Tables) → s .p ≡ p → s .entries ≡ entries → r ≡ eachEntry eight s (entryInRange eight s)) ⌝ }
 {

@@ -48,6 +48,7 @@ fn asks_for(w: u8, c: u8, m: Message) -> bool
     }
 }
 
+// Every cell that waits has its message, and no second one.
 fn cells_awaited(s: State) -> bool
     ensures { λ r. ⌜ r ≡ eachCell eight (tables s) (cellAwaited eight (tables s)) ⌝ }
 {
@@ -78,15 +79,17 @@ fn cells_awaited(s: State) -> bool
 
 // ---- one step along ends and references, for each entry
 
+// Where one step leads.
 pub struct Step {
     pub next: Place,
 }
 
+// The steps of all entries, entry e of worker w at w * 16 + e.
 pub struct Steps {
     pub steps: [Step; 128],
 }
 
-// A free entry leads nowhere.
+// The step from each entry, to what the end of its cell names. A free entry leads nowhere.
 fn steps_of(s: State) -> Steps
     ensures { λ r. ⌜ Followed eight (tables s) (r .steps) 128 ⌝ }
 {
@@ -212,6 +215,7 @@ fn message_has_its(t: Steps, m: Message, k: Kind, x: Holding) -> bool
     }
 }
 
+// Every message has its EX and names what it may.
 fn messages_have_theirs(s: State) -> bool
     ensures { λ r. ⌜ r ≡ eachMessage eight (tables s) (messageHasIts eight (tables s)) ⌝ }
 {
