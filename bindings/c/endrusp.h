@@ -1,5 +1,5 @@
 /* Endrusp for C: the text program over a buffer that the caller lends.
- * Link libexport.a, which `rt staticlib export` writes to target/staticlib/. */
+ * Link libforeign.a, which `rt staticlib foreign` writes to target/staticlib/. */
 #ifndef ENDRUSP_H
 #define ENDRUSP_H
 

@@ -2,7 +2,7 @@
 //! with.
 //!
 //! [`run`] and [`run_into`] run the text program of document 01 in the linked
-//! library, the archive `libexport.a`. They need the feature `linked`, which is
+//! library, the archive `libforeign.a`. They need the feature `linked`, which is
 //! on by default. [`model`] is the same document written a second time, plainly
 //! and apart from the library; it links nothing.
 //!

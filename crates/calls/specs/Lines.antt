@@ -21,7 +21,7 @@ bindLines sound p w k x loose =
     ++ (NoCell when isFree k)
     ∷ (NoCell when isFree (x .kind))
     ∷ (WrongKind when not (isVar k))
-    ∷ (WrongKind when not (isEx (x .held)))
+    ∷ (WrongKind when not (isEx (x .ending)))
     ∷ (Unsafe when loose)
     ∷ []
 

@@ -78,7 +78,7 @@ pub fn bind(s: State, w: u8, c: u8, x: u8) -> Reply
     let entries = s.entries;
     let k = lookups::cell_at(cells, w, c);
     let other = lookups::see(cells, w, x);
-    let ex = other.held;
+    let ex = other.ending;
     let loose = both(
         lookups::is_exported(entries, w, c),
         !lookups::is_safe(entries, w, ex),
@@ -98,7 +98,7 @@ pub fn export(s: State, w: u8, c: u8, to: u8) -> Reply
     let look = lookups::see(cells, w, c);
     let k = look.kind;
     let x = look.end;
-    let end = look.held;
+    let end = look.ending;
     let ex = parts::is_ex(end);
     let u = changes::use_entry(entries, w, x);
     let room = lookups::room_at(cells, slots, to);
@@ -118,7 +118,7 @@ pub fn indirect(s: State, w: u8, c: u8, to: u8) -> Reply
     let look = lookups::see(cells, w, c);
     let k = look.kind;
     let x = look.end;
-    let end = look.held;
+    let end = look.ending;
     let u = changes::use_entry(entries, w, x);
     let room = lookups::room_at(cells, slots, to);
     let first = send_refusals(sound::is_sound(s), s.p, w, to, k).refuse_if(
@@ -174,7 +174,7 @@ pub fn read(s: State, w: u8, c: u8) -> Reply
     let slots = s.slots;
     let look = lookups::see(cells, w, c);
     let k = look.kind;
-    let end = look.held;
+    let end = look.ending;
     let slot = lookups::lowest_empty_slot(slots);
     let first = cell_refusals(sound::is_sound(s), s.p, w, k);
     let v = slot_refusal(first, read_sends(end), slot);
@@ -190,7 +190,7 @@ pub fn ask(s: State, w: u8, c: u8) -> Reply
     let slots = s.slots;
     let look = lookups::see(cells, w, c);
     let k = look.kind;
-    let end = look.held;
+    let end = look.ending;
     let slot = lookups::lowest_empty_slot(slots);
     let first = cell_refusals(sound::is_sound(s), s.p, w, k).refuse_if(
         !parts::is_ex(end),

@@ -44,7 +44,7 @@ pub fn bind_refusals(sound: bool, p: u8, w: u8, k: Kind, x: Seen, loose: bool) -
     ensures { λ r. ⌜ r ≡ along Go (bindLines sound p w k x loose) ⌝ }
 {
     let other = x.kind;
-    let ex = x.held;
+    let ex = x.ending;
     cell_refusals(sound, p, w, k)
         .refuse_if(parts::is_free(other), Refusal::NoCell)
         .refuse_if(!parts::is_var(k), Refusal::WrongKind)
@@ -90,8 +90,8 @@ pub fn by_location_refusals(v: Verdict, u: Used, room: Room) -> Verdict
     ensures { λ r. ⌜ r ≡ along v (byLocationLines u room) ⌝ }
 {
     let e = u.number;
-    let held = u.holding;
-    let over = 1047552 < parts::entry_weight(held);
+    let holding = u.holding;
+    let over = 1047552 < parts::entry_weight(holding);
     let first = v.refuse_if(over, Refusal::OverCeiling)
         .refuse_if(16 <= e, Refusal::NoEntry);
     room_refusals(first, room)

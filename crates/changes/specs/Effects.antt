@@ -7,7 +7,8 @@ use Rattle.tables.specs.declared.Message.the-variants.{Empty, Reference, Releas
 use Rattle.tables.specs.Machine.{Machine, Tables}
 use Rattle.tables.specs.Look.{entry, putCell, putEntry, putMessage}
 use Rattle.rules.specs.Answers.{Result}
-use Rattle.rules.specs.Refusals.{entryToUse, entryEnd}
+use Rattle.rules.specs.Chains.{entryEnd}
+use Rattle.rules.specs.Refusals.{entryToUse}
 use Rattle.changes.specs.declared.Used.{Used}
 use Rattle.changes.specs.declared.Effect.{Effect}
 use Rattle.changes.specs.declared.Change.{Change}

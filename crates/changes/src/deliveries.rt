@@ -6,8 +6,8 @@ ghost use Rattle.tables.specs.declared.Message.the-variants.{Reference};
 ghost use Rattle.tables.specs.Machine.{Tables, eight};
 ghost use Rattle.tables.specs.Parts.{exWeight, entryWeight};
 ghost use Rattle.rules.specs.Sound.{sound};
-ghost use Rattle.rules.specs.Refusals.{entryEnd};
-ghost use Rattle.rules.specs.Deliver.{takenOff, joined, known, supplied, grown, readOnEx, readOn, arrives, deliverMessage};
+ghost use Rattle.rules.specs.Chains.{entryEnd};
+ghost use Rattle.rules.specs.Deliver.{takenOff, joined, known, supplied, grown, readOnEx, readOn, arrivalCell, deliverMessage};
 ghost use Rattle.rules.specs.Deliver.{deliverHome, deliverAway, deliverRelease, deliverRead, deliverAnswer, deliverSupply, deliverAsk};
 ghost use Rattle.tables.specs.Parts.{messageWeight};
 ghost use Rattle.tables.specs.Look.{entry};
@@ -162,7 +162,7 @@ fn entry_end(cells: [Cell; 256], o: u8, x: Holding) -> Kind
         Holding::Unused => Kind::Free,
         Holding::Live { cell, .. } => {
             let look = lookups::see(cells, o, cell);
-            look.held
+            look.ending
         }
     }
 }
@@ -230,8 +230,8 @@ fn read_on(r: u8, c: u8, m: Message, k: Kind) -> Message
 // ---- each message, in the slot k
 
 // The cell of worker w where a Reference to the entry e of worker o arrives.
-fn arrives(cells: [Cell; 256], w: u8, o: u8, e: u8) -> u8
-    ensures { λ r. ⌜ ((t : Tables) → t .cells ≡ cells → r ≡ arrives eight t w o e) ⌝ }
+fn arrival_cell(cells: [Cell; 256], w: u8, o: u8, e: u8) -> u8
+    ensures { λ r. ⌜ ((t : Tables) → t .cells ≡ cells → r ≡ arrivalCell eight t w o e) ⌝ }
 {
     let x = lookups::ex_naming(cells, w, o, e);
     if x < 32 {
@@ -254,7 +254,7 @@ fn deliver_home(entries: [Entry; 128], k: u8, o: u8, e: u8, w: u32) -> Effect
 fn deliver_away(cells: [Cell; 256], k: u8, to: u8, o: u8, e: u8, w: u32) -> Effect
     ensures { λ r. ⌜ ((t : Tables) → t .cells ≡ cells → sound eight t ≡ true → w ≤ 1048576 → made eight t r ≡ deliverAway eight t k to o e w) ⌝ }
 {
-    let c = arrives(cells, to, o, e);
+    let c = arrival_cell(cells, to, o, e);
     let ex = joined(o, e, w, lookups::cell_at(cells, to, c));
     with_cell_and_message(Outcome::Done(c as u32), to, c, ex, k, Message::Empty)
 }

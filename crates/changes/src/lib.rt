@@ -271,8 +271,8 @@ pub fn by_location(u: Used, w: u8, x: u8, to: u8, taint: bool, slot: u8) -> Effe
     ensures { λ r. ⌜ ((t : Tables) → sound eight t ≡ true → u ≡ used eight t w x → slot ≡ lowestEmptySlot eight t → made eight t r ≡ byLocation eight t w x to taint) ⌝ }
 {
     let e = u.number;
-    let held = u.holding;
-    let gained = gains(x, taint, held);
+    let holding = u.holding;
+    let gained = gains(x, taint, holding);
     let m = Message::Reference {
         to: to,
         owner: w,

@@ -24,7 +24,7 @@ isSoughtEntry (EntryOf c) x = entryNames c x
 
 -- what the cell c of worker w holds, the number of its end, and what the end holds
 abbrev pub seen : Machine → Tables → ℕ → ℕ → Seen
-seen 𝓜 s w c = record { kind = cell 𝓜 s w c; end = end 𝓜 s w c; held = endKind 𝓜 s w c }
+seen 𝓜 s w c = record { kind = cell 𝓜 s w c; end = end 𝓜 s w c; ending = endKind 𝓜 s w c }
 
 -- the free cells and the References booked at worker w, and the lowest empty slot
 abbrev pub room : Machine → Tables → ℕ → Room

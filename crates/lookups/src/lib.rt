@@ -109,7 +109,7 @@ pub fn put_message(s: State, k: u8, m: Message) -> State
 pub struct Seen {
     pub kind: Kind,
     pub end: u8,
-    pub held: Kind,
+    pub ending: Kind,
 }
 
 // The cell c of worker w, and its end.
@@ -119,7 +119,7 @@ pub fn see(cells: [Cell; 256], w: u8, c: u8) -> Seen
     let nothing = Seen {
         kind: Kind::Free,
         end: c,
-        held: Kind::Free,
+        ending: Kind::Free,
     };
     if 8 <= w {
         return nothing;
@@ -134,15 +134,15 @@ pub fn see(cells: [Cell; 256], w: u8, c: u8) -> Seen
         return Seen {
             kind: k,
             end: end,
-            held: Kind::Free,
+            ending: Kind::Free,
         };
     }
     let y = cells[w as usize * 32 + end as usize];
-    let held = y.kind;
+    let ending = y.kind;
     Seen {
         kind: k,
         end: end,
-        held: held,
+        ending: ending,
     }
 }
 

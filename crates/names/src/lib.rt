@@ -59,7 +59,7 @@ pub fn point_2(s: State) -> bool
         let at = parts::named_by(k);
         let h = places::place_index(at);
         let z = s.entries[h];
-        let held = z.holding;
+        let holding = z.holding;
         let mut twins: u8 = 0;
         for c in 0..32usize {
             let other = s.cells[i / 32 * 32 + c];
@@ -67,7 +67,7 @@ pub fn point_2(s: State) -> bool
             twins += bit_of(places::names_place(at, kind));
         }
         let end = places::cell_seen(w, d, there);
-        let entry = places::place_seen(at, held);
+        let entry = places::place_seen(at, holding);
         good = both(good, cell_names(w, k, end, entry, twins));
     }
     good
@@ -124,14 +124,14 @@ pub fn point_3(s: State) -> bool
         let at = parts::named_by(end);
         let h = places::place_index(at);
         let v = s.entries[h];
-        let held = v.holding;
+        let beyond = v.holding;
         let mut twins: u8 = 0;
         for e in 0..16usize {
             let other = s.entries[i / 16 * 16 + e];
             let named = other.holding;
             twins += bit_of(parts::entry_names(c, named));
         }
-        let entry = places::place_seen(at, held);
+        let entry = places::place_seen(at, beyond);
         good = both(good, entry_names(w, holding, k, end, entry, twins));
     }
     good

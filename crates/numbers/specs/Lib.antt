@@ -4,6 +4,5 @@ pub mod Lists
 pub mod Tests
 pub mod BelowLaws
 pub mod ListLaws
-pub mod Loops
 pub mod Grid
 pub mod Pigeon

@@ -24,15 +24,16 @@ use Rattle.tables.specs.declared.Place.the-variants.{Nowhere, At}
 use Rattle.tables.specs.Machine.{Machine, Tables}
 use Rattle.tables.specs.Parts.{isFree, isVar, isVal, isReading, isAsking, exNames, namedBy, isLive, isTainted, entryNames, entryWeight, isEmpty, goesTo, cellOf}
 use Rattle.tables.specs.Look.{cell, entry, end, endKind, exNaming, lowestFreeCell, booked, freeCells, message, putCell, putEntry, putMessage}
-use Rattle.rules.specs.Sound.{readsFor, asksFor, follow, messageHolds, held}
-use Rattle.rules.specs.Refusals.{entryEnd, ready, deliverRefusals}
-use Rattle.rules.specs.Deliver.{takenOff, joined, known, supplied, grown, readOn, arrives, deliverHome, deliverAway, deliverRelease, deliverRead, deliverAnswer, deliverSupply, deliverAsk, deliverMessage, deliver}
+use Rattle.rules.specs.Chains.{entryEnd, follow, ahead, EndsIn}
+use Rattle.rules.specs.Sound.{readsFor, asksFor, messageHolds, held}
+use Rattle.rules.specs.Refusals.{ready, deliverRefusals}
+use Rattle.rules.specs.Deliver.{takenOff, joined, known, supplied, grown, readOn, arrivalCell, deliverHome, deliverAway, deliverRelease, deliverRead, deliverAnswer, deliverSupply, deliverAsk, deliverMessage, deliver}
 use Rattle.rules.specs.Machines.{Laws}
-use Rattle.rules.specs.Facts.{EntryFact, MessageFact, ahead, ReadAhead, EndsIn, KnownFact, AnswerFact}
+use Rattle.rules.specs.Facts.{EntryFact, MessageFact, ReadAhead, KnownFact, AnswerFact}
 use Rattle.rules.proofs.Inside.{cell-inside, entry-inside, message-total}
 use Rattle.rules.proofs.Named.{nowhere-at, the-live, ExOf, the-ex-of, eq-both, both-eq}
-use Rattle.rules.proofs.Derived.{live-fact, held-live, message-held, names-live, reading-cell, asking-cell, LivePlace, named-place, ahead-place}
-use Rattle.rules.specs.Change.{next, Keeps, Ranked, Invariant}
+use Rattle.rules.proofs.Derived.{live-fact, held-live, message-held, names-live, reading-cell, asking-cell, LivePlace, named-place, read-live}
+use Rattle.rules.specs.Move.{next, Keeps, Makes, nothing, Ranked, Invariant}
 use Rattle.rules.proofs.Next.{cell-stored}
 use Rattle.rules.proofs.Kept.{facts-kept}
 use Rattle.rules.proofs.Onward.{follow-live, ahead-kept, ends-kept}
@@ -140,7 +141,7 @@ module _ (𝓜 : Machine) (L : Laws 𝓜) (s : Tables) (I : Invariant 𝓜 s) (�
       omega (arith, message-total 𝓜 s (λ m. bit (goesTo to m)) refl k, ap (λ (m : Message). bit (goesTo to m)) q, ap bit (eq-eqb to to refl))
 
   away-arrives : (k to o e w : ℕ) → message s k ≡ Reference to o e w → eqb to o ≡ false → Arrived 𝓜 s ρ (deliverAway 𝓜 s k to o e w .after)
-  unfolding deliverAway arrives exNaming
+  unfolding deliverAway arrivalCell exNaming
   away-arrives k to o e w q other = go (ltb (exNaming 𝓜 s to o e) (𝓜 .cells)) refl
     where
       f : MessageFact 𝓜 s (Reference to o e w)
@@ -250,16 +251,11 @@ module _ (𝓜 : Machine) (L : Laws 𝓜) (s : Tables) (I : Invariant 𝓜 s) (�
   read-of : (k r c o e : ℕ) → message s k ≡ Read r c o e → (n : ℕ) × (ahead 𝓜 s n (namedBy (cell 𝓜 s r c)) ≡ At o e)
   read-of k r c o e q = subst (λ (m : Message). (n : ℕ) × ReadAhead 𝓜 s n m) q (I .reads k)
 
-  -- the entry of a Read is live, before and after it goes on
-  read-live : (k r c o e : ℕ) → message s k ≡ Read r c o e → isLive (entry 𝓜 s o e) ≡ true
-  read-live k r c o e q =
-      let at = read-of k r c o e q in
-      ahead-place 𝓜 s (I .facts) (at .0) (namedBy (cell 𝓜 s r c)) (named-place 𝓜 s (I .facts) r c) o e (at .1)
-
+  -- its entry is live after it goes on
   live-read : (k r c o e : ℕ) (m : Message) (K : Keeps 𝓜 s (entryMove 𝓜 s 0 0 (entry 𝓜 s 0 0) (entry 𝓜 s 0 0) k (Read r c o e) m)) → message s k ≡ Read r c o e → isLive (entry 𝓜 (next 𝓜 s (entryMove 𝓜 s 0 0 (entry 𝓜 s 0 0) (entry 𝓜 s 0 0) k (Read r c o e) m)) o e) ≡ true
   live-read k r c o e m K q =
       ap isLive (entries-same 𝓜 L s (I .facts) 0 0 (entry 𝓜 s 0 0) (entry 𝓜 s 0 0) k (Read r c o e) m (L .workers-some) (L .entries-some) (message-inside k (ap isEmpty q)) refl q refl o e)
-      ∙ read-live k r c o e q
+      ∙ read-live 𝓜 s (I .facts) (I .reads) k r c o e q
 
   goes-on : (k r c o e o′ e′ : ℕ) → message s k ≡ Read r c o e → follow 𝓜 s (At o e) ≡ At o′ e′ → Arrived 𝓜 s ρ (putMessage s k (Read r c o′ e′))
   unfolding ahead
@@ -306,7 +302,7 @@ module _ (𝓜 : Machine) (L : Laws 𝓜) (s : Tables) (I : Invariant 𝓜 s) (�
   read-arrives : (k r c o e : ℕ) → message s k ≡ Read r c o e → ready 𝓜 s (Read r c o e) ≡ true → Arrived 𝓜 s ρ (deliverRead 𝓜 s k r c o e .after)
   unfolding deliverRead endKind ahead ready
   read-arrives k r c o e q is-ready =
-      let l = the-live (entry 𝓜 s o e) (read-live k r c o e q) in
+      let l = the-live (entry 𝓜 s o e) (read-live 𝓜 s (I .facts) (I .reads) k r c o e q) in
       subst (λ (x : Holding). Arrived 𝓜 s ρ (putMessage s k (readOn r c (Read r c o e) (entryEnd 𝓜 s o x)))) (sym (l .is))
       (at-end (l .cell) (l .weight) (l .tainted) (l .is) (cell 𝓜 s o (end 𝓜 s o (l .cell))) refl (end-is 𝓜 L s (I .facts) ρ R o (l .cell) (live-fact 𝓜 s (I .facts) o e l .2)) (sym (ap (λ (x : Holding). not (isVar (entryEnd 𝓜 s o x))) (l .is)) ∙ is-ready))
     where
@@ -348,7 +344,7 @@ module _ (𝓜 : Machine) (L : Laws 𝓜) (s : Tables) (I : Invariant 𝓜 s) (�
       go (Ex o e n Reading a) i t =
           let h = cellMove 𝓜 s r c (Ex o e n Reading a) (Ex o e n (Known v) a) k (Answer r c v) Empty in
           let inside = cell-inside 𝓜 s r c (ap isFree i) in
-          let M : ExMoves 𝓜 L s (I .facts) r c o e n n Reading (Known v) a a k (Answer r c v) Empty = record { i-in = within; old-cell = i; old-message = q; some = weight-some 𝓜 L s I r c o e n Reading a i; message-ok = tt; reads = λ x d. mark-off (eqb r x && eqb c d); asks = λ x d. refl; weights = λ x y. refl; holds-ok = λ x y. refl; room = λ x. omega (arith, I .facts .room x) } in
+          let M : ExMoves 𝓜 L s (I .facts) r c o e n n Reading (Known v) a a k (Answer r c v) Empty = record { i-in = within; old-cell = i; old-message = q; some = weight-some 𝓜 L s (I .facts) r c o e n Reading a i; message-ok = tt; reads = λ x d. mark-off (eqb r x && eqb c d); asks = λ x d. refl; weights = λ x y. refl; holds-ok = λ x y. refl; room = λ x. omega (arith, I .facts .room x) } in
           let K = ex-keeps 𝓜 L s (I .facts) r c o e n n Reading (Known v) a a k (Answer r c v) Empty M in
           let here = cell-stored 𝓜 s h (I .facts .sized) (K .placed) .here in
           let live = subst (LivePlace 𝓜 (next 𝓜 s h)) (ap namedBy here) (named-place 𝓜 (next 𝓜 s h) (facts-kept 𝓜 s h (I .facts) K) r c) in
@@ -376,7 +372,7 @@ module _ (𝓜 : Machine) (L : Laws 𝓜) (s : Tables) (I : Invariant 𝓜 s) (�
             i-in = message-inside k (ap isEmpty q);
             old-cell = i;
             old-message = q;
-            some = omega (arith, weight-some 𝓜 L s I a c o e n st true i);
+            some = omega (arith, weight-some 𝓜 L s (I .facts) a c o e n st true i);
             message-ok = tt;
             reads = λ v d. refl;
             asks = λ v d. mark-off (eqb a v && eqb c d);
@@ -450,8 +446,8 @@ module _ (𝓜 : Machine) (L : Laws 𝓜) (s : Tables) (I : Invariant 𝓜 s) (�
   message-arrives k (Ask a c o e) q full is-ready = ask-arrives k a c o e q
   message-arrives k (Supply a c w) q full is-ready = supply-arrives k a c w q
 
-pub deliver-stays : (𝓜 : Machine) (L : Laws 𝓜) (s : Tables) (I : Invariant 𝓜 s) (k : ℕ) → Invariant 𝓜 (deliver 𝓜 s k .after)
+pub deliver-makes : (𝓜 : Machine) (L : Laws 𝓜) (s : Tables) (I : Invariant 𝓜 s) (k : ℕ) → Makes 𝓜 s (deliver 𝓜 s k .after)
 unfolding deliver
-deliver-stays 𝓜 L s I k =
-    after-checked (Invariant 𝓜) s (deliverRefusals 𝓜 s k) (deliverMessage 𝓜 s k (message s k)) I
-    (λ p. message-arrives 𝓜 L s I (I .rank) (I .ranked) k (message s k) refl (search) (not-false (search)) .invariant)
+deliver-makes 𝓜 L s I k =
+    after-checked (Makes 𝓜 s) s (deliverRefusals 𝓜 s k) (deliverMessage 𝓜 s k (message s k)) nothing
+    (λ p. message-arrives 𝓜 L s I (I .rank) (I .ranked) k (message s k) refl (search) (not-false (search)) .makes)

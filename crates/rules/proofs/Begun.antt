@@ -25,12 +25,13 @@ use Rattle.tables.specs.Machine.{Machine, Tables}
 use Rattle.tables.specs.Parts.{isReading, isAsking, exNames, isLive, entryNames, entryWeight, goesTo}
 use Rattle.tables.specs.Look.{cell, entry, booked, message}
 use Rattle.rules.specs.Answers.{succeeds, refuse, checked}
-use Rattle.rules.specs.Sound.{readsFor, asksFor, readsOf, asksOf, follow, through, cellHolds, messageHolds, held}
+use Rattle.rules.specs.Chains.{through, follow}
+use Rattle.rules.specs.Sound.{readsFor, asksFor, readsOf, asksOf, cellHolds, messageHolds, held}
 use Rattle.rules.specs.Calls.{allFree, closed, start}
 use Rattle.rules.specs.Facts.{CellFact, EntryFact, MessageFact, ReadAhead, KnownFact, AnswerFact}
 use Rattle.rules.proofs.Inside.{cells-all, entries-all}
 use Rattle.rules.proofs.Named.{nowhere-at}
-use Rattle.rules.specs.Change.{Invariant}
+use Rattle.rules.specs.Move.{Invariant}
 
 module _ (𝓜 : Machine) (p : ℕ) where
   s : Tables

@@ -15,24 +15,25 @@ use Rattle.tables.specs.Machine.{Machine, Tables}
 use Rattle.tables.specs.Parts.{namedBy}
 use Rattle.tables.specs.Look.{cell, message}
 use Rattle.rules.specs.Sound.{readsFor}
-use Rattle.rules.specs.Facts.{Facts, ahead, ReadAhead, Reads, EndsIn, StatusFact, KnownFact, AnswerFact}
+use Rattle.rules.specs.Chains.{ahead, EndsIn}
+use Rattle.rules.specs.Facts.{Facts, ReadAhead, Reads, StatusFact, KnownFact, AnswerFact}
 use Rattle.rules.proofs.Named.{eq-both}
 use Rattle.rules.proofs.Derived.{reading-cell, LivePlace, named-place}
-use Rattle.rules.specs.Change.{Change, next, Keeps, Carries}
+use Rattle.rules.specs.Move.{Move, next, Keeps, Carries}
 use Rattle.rules.proofs.Stored.{stored-each}
 use Rattle.rules.proofs.Next.{cell-stored, messages-all}
-use Rattle.rules.proofs.Kept.{seen-name, reading-seen, facts-kept}
+use Rattle.rules.proofs.Kept.{shown-name, reading-shown, facts-kept}
 use Rattle.rules.proofs.Onward.{ahead-kept, ends-kept}
 
-module _ (𝓜 : Machine) (s : Tables) (h : Change) (F : Facts 𝓜 s) (K : Keeps 𝓜 s h) where
+module _ (𝓜 : Machine) (s : Tables) (h : Move) (F : Facts 𝓜 s) (K : Keeps 𝓜 s h) where
   F′ : Facts 𝓜 (next 𝓜 s h)
   F′ = facts-kept 𝓜 s h F K
 
   -- an EX that waits for this message names what it named
   waiting-name : (j r d : ℕ) (m : Message) → message s j ≡ m → readsFor r d m ≡ true → namedBy (cell 𝓜 (next 𝓜 s h) r d) ≡ namedBy (cell 𝓜 s r d)
   waiting-name j r d m q t =
-      seen-name Nowhere (λ owner entr. At owner entr) (cell 𝓜 (next 𝓜 s h) r d) (cell 𝓜 s r d)
-      (reading-seen 𝓜 s h F K r d (reading-cell 𝓜 s F j r d (ap (readsFor r d) q ∙ t)))
+      shown-name Nowhere (λ owner entr. At owner entr) (cell 𝓜 (next 𝓜 s h) r d) (cell 𝓜 s r d)
+      (reading-shown 𝓜 s h F K r d (reading-cell 𝓜 s F j r d (ap (readsFor r d) q ∙ t)))
 
   -- ---- a message that stays
   read-kept : (j n : ℕ) (m : Message) → message s j ≡ m → ReadAhead 𝓜 s n m → ReadAhead 𝓜 (next 𝓜 s h) n m

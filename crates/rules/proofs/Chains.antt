@@ -14,9 +14,7 @@ use Rattle.tables.specs.declared.Place.the-variants.{Nowhere, At}
 use Rattle.tables.specs.Machine.{Machine, Tables}
 use Rattle.tables.specs.Parts.{isVar, namedBy}
 use Rattle.tables.specs.Look.{entry}
-use Rattle.rules.specs.Sound.{follow, through}
-use Rattle.rules.specs.Refusals.{entryEnd}
-use Rattle.rules.specs.Facts.{ahead, EndsIn}
+use Rattle.rules.specs.Chains.{entryEnd, through, follow, ahead, EndsIn}
 use Rattle.rules.proofs.Named.{nowhere-at}
 use Rattle.rules.proofs.Onward.{ahead-nowhere}
 use Rattle.rules.proofs.Arrive.{ahead-add}
@@ -25,11 +23,7 @@ module _ (𝓜 : Machine) (s : Tables) where
   -- a step goes to what the end of the entry's cell names
   follow-end : (o e : ℕ) → follow 𝓜 s (At o e) ≡ namedBy (entryEnd 𝓜 s o (entry 𝓜 s o e))
   unfolding follow
-  follow-end o e = go (entry 𝓜 s o e)
-    where
-      go : (x : Holding) → through 𝓜 s o x ≡ namedBy (entryEnd 𝓜 s o x)
-      go Unused = refl
-      go (Live c n t) = refl
+  follow-end o e = refl
 
   -- past an end that is a VAR or a VAL there is nothing
   past-end : (p : Place) (m n o e : ℕ) → ahead 𝓜 s m p ≡ At o e → namedBy (entryEnd 𝓜 s o (entry 𝓜 s o e)) ≡ Nowhere → m < n → ahead 𝓜 s n p ≡ Nowhere

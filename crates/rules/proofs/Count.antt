@@ -24,14 +24,13 @@ use Rattle.tables.specs.Machine.{Machine, Tables}
 use Rattle.tables.specs.Parts.{isFree, isVar, isVal, isEx, namedBy, isLive}
 use Rattle.tables.specs.Look.{holdingAt, cell, entry, endKind, liveEntries, message}
 use Rattle.tables.specs.Laws.{entry-in}
-use Rattle.rules.specs.Sound.{follow}
-use Rattle.rules.specs.Refusals.{entryEnd}
+use Rattle.rules.specs.Chains.{entryEnd, follow, ahead}
 use Rattle.rules.specs.Machines.{Laws, Sized}
-use Rattle.rules.specs.Facts.{CellFact, Facts, ahead, ReadAhead, Reads, ReadsWithin}
+use Rattle.rules.specs.Facts.{CellFact, Facts, ReadAhead, Reads, ReadsWithin}
 use Rattle.rules.proofs.Inside.{entry-inside}
 use Rattle.rules.proofs.Named.{nowhere-at, the-live, the-ex}
 use Rattle.rules.proofs.Derived.{live-fact, LivePlace, named-place, follow-place, ahead-place, read-within}
-use Rattle.rules.specs.Change.{Ranked}
+use Rattle.rules.specs.Move.{Ranked}
 use Rattle.rules.proofs.Kept.{end-ref, end-self}
 use Rattle.rules.proofs.Onward.{ahead-nowhere, follow-live}
 

@@ -3,7 +3,7 @@
 use Prim.Native.Nat.{ℕ, zero, suc, _*_, _<_, _≤_}
 use native.Mathlib.Nat.{mul-pos}
 use native.Mathlib.Omega.{arith}
-use mathlib.Core.Path.{_≡_, refl, ap}
+use mathlib.Core.Path.{_≡_, refl, sym, ap, ap₂, subst, _∙_}
 use mathlib.Core.Bool.{Bool, true, false}
 use Rattle.numbers.specs.Below.{bit}
 use Rattle.numbers.specs.Lists.{total}
@@ -20,9 +20,10 @@ use Rattle.tables.specs.declared.Place.the-variants.{Nowhere, At}
 use Rattle.tables.specs.Machine.{Machine, Tables}
 use Rattle.tables.specs.Parts.{isFree, isReading, isAsking, exNames, namedBy, isLive, entryWeight}
 use Rattle.tables.specs.Look.{cell, entry, end, endKind, message}
-use Rattle.rules.specs.Sound.{readsFor, asksFor, readsOf, asksOf, follow, through, cellHolds, messageHolds, held}
+use Rattle.rules.specs.Chains.{through, follow, ahead}
+use Rattle.rules.specs.Sound.{readsFor, asksFor, readsOf, asksOf, cellHolds, messageHolds, held}
 use Rattle.rules.specs.Machines.{Laws}
-use Rattle.rules.specs.Facts.{CellFact, EntryFact, Facts, ahead, ReadAhead}
+use Rattle.rules.specs.Facts.{CellFact, EntryFact, Facts, ReadAhead, Reads}
 use Rattle.rules.proofs.Inside.{entry-inside, cell-total, message-total}
 use Rattle.rules.proofs.Named.{eq-both, nowhere-at, named-ex, IsLive, the-live, the-ex-of}
 
@@ -67,6 +68,12 @@ module _ (𝓜 : Machine) (s : Tables) where
 -- a place that, where it is an entry, is a live one
 abbrev pub LivePlace : Machine → Tables → Place → Type 0
 LivePlace 𝓜 s p = (o e : ℕ) → p ≡ At o e → isLive (entry 𝓜 s o e) ≡ true
+
+pub live-place : (𝓜 : Machine) (s : Tables) (a b : ℕ) → isLive (entry 𝓜 s a b) ≡ true → LivePlace 𝓜 s (At a b)
+live-place 𝓜 s a b l o e q =
+    let at-owner : a ≡ o = cc in
+    let at-number : b ≡ e = cc in
+    sym (ap isLive (ap₂ (entry 𝓜 s) at-owner at-number)) ∙ l
 
 module _ (𝓜 : Machine) (s : Tables) (F : Facts 𝓜 s) where
   -- a cell that is not free belongs to a worker in use
@@ -139,6 +146,12 @@ module _ (𝓜 : Machine) (s : Tables) (F : Facts 𝓜 s) where
   unfolding ahead
   ahead-place zero p l = l
   ahead-place (suc n) p l = ahead-place n (follow 𝓜 s p) (follow-place p)
+
+  -- the entry of a Read is live
+  pub read-live : Reads 𝓜 s → (k r c o e : ℕ) → message s k ≡ Read r c o e → isLive (entry 𝓜 s o e) ≡ true
+  read-live reads k r c o e q =
+      let at : (n : ℕ) × ReadAhead 𝓜 s n (Read r c o e) = subst (λ (m : Message). (n : ℕ) × ReadAhead 𝓜 s n m) q (reads k) in
+      ahead-place (at .0) (namedBy (cell 𝓜 s r c)) (named-place r c) o e (at .1)
 
 -- ---- how far a Read's entry is ahead of its EX: a statement on every message, which says nothing of the others
 module _ (𝓜 : Machine) (s : Tables) (L : Laws 𝓜) where

@@ -14,13 +14,13 @@ use Rattle.tables.specs.Look.{cell, entry, end, endKind, safe, message}
 use Rattle.rules.specs.Sound.{varValOrSafe}
 use Rattle.rules.specs.Machines.{Laws}
 use Rattle.rules.specs.Facts.{CellFact, EntryFact, Facts}
-use Rattle.rules.specs.Change.{Change, next, Placed}
+use Rattle.rules.specs.Move.{Move, next, Placed}
 use Rattle.rules.proofs.Stored.{stored-each}
 use Rattle.rules.proofs.Next.{cell-stored, entry-stored}
 use Rattle.rules.proofs.Moves.{entryMove}
 
 module _ (𝓜 : Machine) (L : Laws 𝓜) (s : Tables) (F : Facts 𝓜 s) (o e : ℕ) (x₀ x : Holding) (i : ℕ) (m₀ m : Message) (o-in : o < 𝓜 .workers) (e-in : e < 𝓜 .entries) (i-in : i < 𝓜 .slots) (old-entry : entry 𝓜 s o e ≡ x₀) (old-message : message s i ≡ m₀) where
-  h : Change
+  h : Move
   h = entryMove 𝓜 s o e x₀ x i m₀ m
 
   P : Placed 𝓜 s (entryMove 𝓜 s o e x₀ x i m₀ m)

@@ -23,9 +23,10 @@ use Rattle.tables.specs.declared.Place.the-variants.{Nowhere, At}
 use Rattle.tables.specs.Machine.{Machine, Tables}
 use Rattle.tables.specs.Parts.{isFree, readingOf, isReading, isAsking, exNames, namedBy, isAt, isLive, entryNames, entryWeight, goesTo}
 use Rattle.tables.specs.Look.{cell, entry, endKind, booked, freeCells, message}
-use Rattle.rules.specs.Sound.{readsFor, asksFor, eachCell, kindInRange, messageInRange, cellInRange, entryInRange, exesNaming, cellNames, entriesNaming, varValOrSafe, entryNamesCell, readsOf, asksOf, cellAwaited, follow, reached, messageHasIts, cellHolds, messageHolds, held, entryWeighs, roomForBooked, point1, point2, point3, point4, point5, point6, sound}
+use Rattle.rules.specs.Chains.{follow, ahead}
+use Rattle.rules.specs.Sound.{readsFor, asksFor, eachCell, kindInRange, messageInRange, cellInRange, entryInRange, exesNaming, cellNames, entriesNaming, varValOrSafe, entryNamesCell, readsOf, asksOf, cellAwaited, reached, messageHasIts, cellHolds, messageHolds, held, entryWeighs, roomForBooked, point1, point2, point3, point4, point5, point6, sound}
 use Rattle.rules.specs.Machines.{Laws, Sized}
-use Rattle.rules.specs.Facts.{CellFact, EntryFact, MessageFact, Facts, ahead, ReadAhead, ReadsWithin}
+use Rattle.rules.specs.Facts.{CellFact, EntryFact, MessageFact, Facts, ReadAhead, ReadsWithin}
 use Rattle.rules.proofs.Inside.{cell-inside, entry-inside, each-cell-at, each-entry-at, each-message-at, flat-none}
 use Rattle.rules.proofs.Named.{both-eq, ex-not-free, ExOf, the-ex-of, the-entry-of, names-live-entry}
 use Rattle.rules.proofs.Derived.{read-within}

@@ -26,29 +26,29 @@ use Rattle.rules.specs.Facts.{CellFact, EntryFact, MessageFact, Facts}
 use Rattle.rules.proofs.Named.{eq-both, ex-not-var, the-ex, the-ex-of, ExOf}
 use Rattle.rules.proofs.Busy.{exported-by, referred-by, busy-exported, busy-referred, busy-reading, busy-asking}
 use Rattle.rules.proofs.Derived.{ex-live, asking-cell}
-use Rattle.rules.specs.Change.{Change, next, seen, VarBecomes, stays, bound, Keeps}
+use Rattle.rules.specs.Move.{Move, next, shown, VarBecomes, stays, bound, Keeps}
 use Rattle.rules.proofs.Stored.{Stored, stored-each, stored-all, stored-number, stored-once}
 use Rattle.rules.proofs.Next.{cell-stored, entry-stored, messages-all, next-sized, cells-total, slots-total, free-count}
 
 -- ---- cells that look the same to others
 -- what an EX's name says is the same of cells that look the same
-pub seen-name : {X : Type 0} (d : X) (f : ℕ → ℕ → X) (j k : Kind) → seen j ≡ seen k → onEx d (λ o e n st a. f o e) j ≡ onEx d (λ o e n st a. f o e) k
-seen-name d f j k q = sym (unseen j) ∙ ap (onEx d (λ o e n st a. f o e)) q ∙ unseen k
+pub shown-name : {X : Type 0} (d : X) (f : ℕ → ℕ → X) (j k : Kind) → shown j ≡ shown k → onEx d (λ o e n st a. f o e) j ≡ onEx d (λ o e n st a. f o e) k
+shown-name d f j k q = sym (unshown j) ∙ ap (onEx d (λ o e n st a. f o e)) q ∙ unshown k
   where
-    unseen : (y : Kind) → onEx d (λ o e n st a. f o e) (seen y) ≡ onEx d (λ o e n st a. f o e) y
-    unseen Free = refl
-    unseen Var = refl
-    unseen (Val n) = refl
-    unseen (Ref c) = refl
-    unseen (Ex o e n st a) = refl
+    unshown : (y : Kind) → onEx d (λ o e n st a. f o e) (shown y) ≡ onEx d (λ o e n st a. f o e) y
+    unshown Free = refl
+    unshown Var = refl
+    unshown (Val n) = refl
+    unshown (Ref c) = refl
+    unshown (Ex o e n st a) = refl
 
 -- a cell that looks like something other than an EX is it
-pub seen-plain : (j k : Kind) → isEx k ≡ false → seen j ≡ k → j ≡ k
-seen-plain Free k t q = q
-seen-plain Var k t q = q
-seen-plain (Val n) k t q = q
-seen-plain (Ref d) k t q = q
-seen-plain (Ex o e n st a) k t q = absurd-bool (sym (ap isEx q)) t
+pub shown-plain : (j k : Kind) → isEx k ≡ false → shown j ≡ k → j ≡ k
+shown-plain Free k t q = q
+shown-plain Var k t q = q
+shown-plain (Val n) k t q = q
+shown-plain (Ref d) k t q = q
+shown-plain (Ex o e n st a) k t q = absurd-bool (sym (ap isEx q)) t
 
 -- a VAR or a VAL is its own end, and names no entry
 pub var-val-end : (k : Kind) (d : ℕ) → (isVar k || isVal k) ≡ true → (isFree k ≡ false) × (endFrom k d ≡ d) × (namedBy k ≡ Nowhere)
@@ -75,7 +75,7 @@ module _ (𝓜 : Machine) (t : Tables) where
       ap (safe 𝓜 t v) (x .is) ∙ sym (ap (varValOrSafe 𝓜 t v) (x .is)) ∙ h
 
 -- the facts of s, and a change that keeps them
-module _ (𝓜 : Machine) (s : Tables) (h : Change) (F : Facts 𝓜 s) (K : Keeps 𝓜 s h) where
+module _ (𝓜 : Machine) (s : Tables) (h : Move) (F : Facts 𝓜 s) (K : Keeps 𝓜 s h) where
   s′ : Tables
   s′ = next 𝓜 s h
 
@@ -87,29 +87,29 @@ module _ (𝓜 : Machine) (s : Tables) (h : Change) (F : Facts 𝓜 s) (K : Keep
   entries-changed = entry-stored 𝓜 s h (F .sized) (K .placed)
 
   -- ---- a busy cell that is no VAR looks the same
-  pub seen-kept : (v d : ℕ) → busy 𝓜 s v d ≡ true → isVar (cell 𝓜 s v d) ≡ false → seen (cell 𝓜 (next 𝓜 s h) v d) ≡ seen (cell 𝓜 s v d)
-  seen-kept =
-      stored-each cells-changed (λ v d x y. busy 𝓜 s v d ≡ true → isVar x ≡ false → seen y ≡ seen x) (K .busy-kept) (λ v d f b nv. refl)
+  pub shown-kept : (v d : ℕ) → busy 𝓜 s v d ≡ true → isVar (cell 𝓜 s v d) ≡ false → shown (cell 𝓜 (next 𝓜 s h) v d) ≡ shown (cell 𝓜 s v d)
+  shown-kept =
+      stored-each cells-changed (λ v d x y. busy 𝓜 s v d ≡ true → isVar x ≡ false → shown y ≡ shown x) (K .busy-kept) (λ v d f b nv. refl)
 
-  asking-seen : (v d : ℕ) → isAsking (cell 𝓜 s v d) ≡ true → seen (cell 𝓜 s′ v d) ≡ seen (cell 𝓜 s v d)
+  asking-shown : (v d : ℕ) → isAsking (cell 𝓜 s v d) ≡ true → shown (cell 𝓜 s′ v d) ≡ shown (cell 𝓜 s v d)
   unfolding s′
-  asking-seen v d t = seen-kept v d (busy-asking 𝓜 s v d t) (ex-not-var (λ o e n st a. a) (cell 𝓜 s v d) t)
+  asking-shown v d t = shown-kept v d (busy-asking 𝓜 s v d t) (ex-not-var (λ o e n st a. a) (cell 𝓜 s v d) t)
 
-  pub reading-seen : (v d : ℕ) → isReading (cell 𝓜 s v d) ≡ true → seen (cell 𝓜 (next 𝓜 s h) v d) ≡ seen (cell 𝓜 s v d)
-  reading-seen v d t = seen-kept v d (busy-reading 𝓜 s v d t) (ex-not-var (λ o e n st a. readingOf st) (cell 𝓜 s v d) t)
+  pub reading-shown : (v d : ℕ) → isReading (cell 𝓜 s v d) ≡ true → shown (cell 𝓜 (next 𝓜 s h) v d) ≡ shown (cell 𝓜 s v d)
+  reading-shown v d t = shown-kept v d (busy-reading 𝓜 s v d t) (ex-not-var (λ o e n st a. readingOf st) (cell 𝓜 s v d) t)
 
-  pub exported-seen : (v d : ℕ) → exported 𝓜 s v d ≡ true → isVar (cell 𝓜 s v d) ≡ false → seen (cell 𝓜 (next 𝓜 s h) v d) ≡ seen (cell 𝓜 s v d)
-  exported-seen v d x nv = seen-kept v d (busy-exported 𝓜 s v d x) nv
+  pub exported-shown : (v d : ℕ) → exported 𝓜 s v d ≡ true → isVar (cell 𝓜 s v d) ≡ false → shown (cell 𝓜 (next 𝓜 s h) v d) ≡ shown (cell 𝓜 s v d)
+  exported-shown v d x nv = shown-kept v d (busy-exported 𝓜 s v d x) nv
 
   -- an EX that a REF names looks the same
-  pub referred-seen : (v d y : ℕ) → cell 𝓜 s v d ≡ Ref y → isEx (cell 𝓜 s v y) ≡ true → seen (cell 𝓜 (next 𝓜 s h) v y) ≡ seen (cell 𝓜 s v y)
-  referred-seen v d y q t = seen-kept v y (busy-referred 𝓜 s v y (referred-by 𝓜 s v y d q)) (ex-not-var (λ o e n st a. true) (cell 𝓜 s v y) t)
+  pub referred-shown : (v d y : ℕ) → cell 𝓜 s v d ≡ Ref y → isEx (cell 𝓜 s v y) ≡ true → shown (cell 𝓜 (next 𝓜 s h) v y) ≡ shown (cell 𝓜 s v y)
+  referred-shown v d y q t = shown-kept v y (busy-referred 𝓜 s v y (referred-by 𝓜 s v y d q)) (ex-not-var (λ o e n st a. true) (cell 𝓜 s v y) t)
 
   -- an EX that looks the same names the same entry
-  pub ex-after : (v d o e n : ℕ) (st : Status) (a : Bool) → cell 𝓜 s v d ≡ Ex o e n st a → seen (cell 𝓜 (next 𝓜 s h) v d) ≡ seen (cell 𝓜 s v d) → ExOf o e (cell 𝓜 (next 𝓜 s h) v d)
+  pub ex-after : (v d o e n : ℕ) (st : Status) (a : Bool) → cell 𝓜 s v d ≡ Ex o e n st a → shown (cell 𝓜 (next 𝓜 s h) v d) ≡ shown (cell 𝓜 s v d) → ExOf o e (cell 𝓜 (next 𝓜 s h) v d)
   ex-after v d o e n st a q same =
       the-ex-of o e (cell 𝓜 (next 𝓜 s h) v d)
-      (seen-name false (λ owner entr. eqb owner o && eqb entr e) (cell 𝓜 (next 𝓜 s h) v d) (cell 𝓜 s v d) same ∙ ap (exNames o e) q ∙ eq-both o e)
+      (shown-name false (λ owner entr. eqb owner o && eqb entr e) (cell 𝓜 (next 𝓜 s h) v d) (cell 𝓜 s v d) same ∙ ap (exNames o e) q ∙ eq-both o e)
 
   -- ---- weights
   -- a message that stays holds what it held
@@ -122,7 +122,7 @@ module _ (𝓜 : Machine) (s : Tables) (h : Change) (F : Facts 𝓜 s) (K : Keep
   holds-same a b j (Ask r d o e) q = refl
   holds-same a b j (Supply r d n) q =
       let t = asking-cell 𝓜 s F j r d (ap (asksFor r d) q ∙ eq-both r d) in
-      ap (λ (z : Bool). cond z n 0) (seen-name false (λ owner entr. eqb owner a && eqb entr b) (cell 𝓜 s′ r d) (cell 𝓜 s r d) (asking-seen r d t))
+      ap (λ (z : Bool). cond z n 0) (shown-name false (λ owner entr. eqb owner a && eqb entr b) (cell 𝓜 s′ r d) (cell 𝓜 s r d) (asking-shown r d t))
 
   holds-new : (a b : ℕ) → messageHolds 𝓜 s′ a b (h .m) ≡ messageHolds 𝓜 s a b (h .m)
   unfolding s′
@@ -157,7 +157,7 @@ module _ (𝓜 : Machine) (s : Tables) (h : Change) (F : Facts 𝓜 s) (K : Keep
   cell-kept v d Var q f = f
   cell-kept v d (Val n) q f = f
   cell-kept v d (Ref y) q f =
-      (f .0, seen-name false (λ owner entr. true) (cell 𝓜 s′ v y) (cell 𝓜 s v y) (referred-seen v d y q (f .1)) ∙ f .1)
+      (f .0, shown-name false (λ owner entr. true) (cell 𝓜 s′ v y) (cell 𝓜 s v y) (referred-shown v d y q (f .1)) ∙ f .1)
   cell-kept v d (Ex o e n st a) q f = f
 
   cells′ : (v d : ℕ) → CellFact 𝓜 s′ v (cell 𝓜 s′ v d)
@@ -180,7 +180,7 @@ module _ (𝓜 : Machine) (s : Tables) (h : Change) (F : Facts 𝓜 s) (K : Keep
   safe-is-ex t v (Ex o e n st a) q = refl
 
   -- an EX that stays what others see of it stays safe
-  safe-kept : (v y : ℕ) → seen (cell 𝓜 s′ v y) ≡ seen (cell 𝓜 s v y) → safe 𝓜 s v (cell 𝓜 s v y) ≡ true → safe 𝓜 s′ v (cell 𝓜 s′ v y) ≡ true
+  safe-kept : (v y : ℕ) → shown (cell 𝓜 s′ v y) ≡ shown (cell 𝓜 s v y) → safe 𝓜 s v (cell 𝓜 s v y) ≡ true → safe 𝓜 s′ v (cell 𝓜 s′ v y) ≡ true
   unfolding safe s′
   safe-kept v y q t =
       let x = the-ex (cell 𝓜 s v y) (safe-is-ex s v (cell 𝓜 s v y) t) in
@@ -226,7 +226,7 @@ module _ (𝓜 : Machine) (s : Tables) (h : Change) (F : Facts 𝓜 s) (K : Keep
           (ap isFree i ∙ r .0, ap (varValOrSafe 𝓜 s′ v) (end-self 𝓜 s′ v d k i (r .1)) ∙ good-var s′ v k t)
       go k i (ref-to-safe y e same t) = (
         ap isFree (i ∙ e),
-        ap (varValOrSafe 𝓜 s′ v) (end-ref 𝓜 s′ v d y (i ∙ e)) ∙ good-safe s′ v (cell 𝓜 s′ v y) (safe-kept v y (ap seen same) t),
+        ap (varValOrSafe 𝓜 s′ v) (end-ref 𝓜 s′ v d y (i ∙ e)) ∙ good-safe s′ v (cell 𝓜 s′ v y) (safe-kept v y (ap shown same) t),
       )
 
   -- an exported cell is not freed, and an end that was a VAR, a VAL or a safe EX is one
@@ -240,16 +240,16 @@ module _ (𝓜 : Machine) (s : Tables) (h : Change) (F : Facts 𝓜 s) (K : Keep
           let r = var-good v d x q in
           (r .0, λ g. r .1)
       go (Val n) q t =
-          let here : cell 𝓜 s′ v d ≡ Val n = seen-plain (cell 𝓜 s′ v d) (Val n) refl (exported-seen v d x (ap isVar q) ∙ ap seen q) in
+          let here : cell 𝓜 s′ v d ≡ Val n = shown-plain (cell 𝓜 s′ v d) (Val n) refl (exported-shown v d x (ap isVar q) ∙ ap shown q) in
           (ap isFree here, λ g. ap (varValOrSafe 𝓜 s′ v) (end-self 𝓜 s′ v d (Val n) here refl))
       go (Ref y) q t =
-          let here : cell 𝓜 s′ v d ≡ Ref y = seen-plain (cell 𝓜 s′ v d) (Ref y) refl (exported-seen v d x (ap isVar q) ∙ ap seen q) in
+          let here : cell 𝓜 s′ v d ≡ Ref y = shown-plain (cell 𝓜 s′ v d) (Ref y) refl (exported-shown v d x (ap isVar q) ∙ ap shown q) in
           let f : CellFact 𝓜 s v (Ref y) = rw q at (F .cells v d) in (
             ap isFree here,
-            (λ g. ap (varValOrSafe 𝓜 s′ v) (end-ref 𝓜 s′ v d y here) ∙ good-safe s′ v (cell 𝓜 s′ v y) (safe-kept v y (referred-seen v d y q (f .1)) (good-ex 𝓜 s v (cell 𝓜 s v y) (f .1) (sym (ap (varValOrSafe 𝓜 s v) (end-ref 𝓜 s v d y q)) ∙ g)))),
+            (λ g. ap (varValOrSafe 𝓜 s′ v) (end-ref 𝓜 s′ v d y here) ∙ good-safe s′ v (cell 𝓜 s′ v y) (safe-kept v y (referred-shown v d y q (f .1)) (good-ex 𝓜 s v (cell 𝓜 s v y) (f .1) (sym (ap (varValOrSafe 𝓜 s v) (end-ref 𝓜 s v d y q)) ∙ g)))),
           )
       go (Ex o e n st a) q t =
-          let same = exported-seen v d x (ap isVar q) in
+          let same = exported-shown v d x (ap isVar q) in
           let r = ex-after v d o e n st a q same in
           let k′ = Ex o e (r .weight) (r .status) (r .asking) in
           let was : varValOrSafe 𝓜 s v (endKind 𝓜 s v d) ≡ true → safe 𝓜 s v (cell 𝓜 s v d) ≡ true = λ g. ap (safe 𝓜 s v) q ∙ sym (ap (varValOrSafe 𝓜 s v) (end-self 𝓜 s v d (Ex o e n st a) q refl)) ∙ g in
@@ -280,7 +280,7 @@ module _ (𝓜 : Machine) (s : Tables) (h : Change) (F : Facts 𝓜 s) (K : Keep
   message-kept j (Answer r d n) q f = tt
   message-kept j (Ask r d o e) q f =
       let t = asking-cell 𝓜 s F j r d (ap (asksFor r d) q ∙ eq-both r d) in
-      seen-name false (λ owner entr. eqb owner o && eqb entr e) (cell 𝓜 s′ r d) (cell 𝓜 s r d) (asking-seen r d t) ∙ f
+      shown-name false (λ owner entr. eqb owner o && eqb entr e) (cell 𝓜 s′ r d) (cell 𝓜 s r d) (asking-shown r d t) ∙ f
   message-kept j (Supply r d n) q f = tt
 
   messages′ : (j : ℕ) → MessageFact 𝓜 s′ (message s′ j)

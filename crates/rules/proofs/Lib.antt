@@ -17,6 +17,7 @@ pub mod Onward
 pub mod Carried
 pub mod Rank
 pub mod Stays
+pub mod Context
 pub mod Count
 -- Every call makes such a change, and every delivery leaves less to be delivered.
 pub mod Moves

@@ -22,14 +22,14 @@ use Rattle.rules.specs.Sound.{readsFor, asksFor, cellHolds, messageHolds
 use Rattle.rules.specs.Refusals.{newRefusals, setRefusals, bindRefusals, transferRefusals, dropRefusals}
 use Rattle.rules.specs.Calls.{new, set, bind, transfer, drop, sendsWhole, releases}
 use Rattle.rules.specs.Machines.{Laws}
-use Rattle.rules.specs.Facts.{CellFact, MessageFact, ReadAhead, AnswerFact}
+use Rattle.rules.specs.Facts.{CellFact, MessageFact, ReadAhead, AnswerFact, Facts}
 use Rattle.rules.proofs.Inside.{cell-inside}
 use Rattle.rules.proofs.Named.{the-ex, not-on-ex}
 use Rattle.rules.proofs.Busy.{idle-parts}
-use Rattle.rules.specs.Change.{next, Placed, VarBecomes, stays, bound, Invariant}
+use Rattle.rules.specs.Move.{next, Placed, VarBecomes, stays, bound, Makes, nothing}
 use Rattle.rules.proofs.Next.{cell-stored}
 use Rattle.rules.proofs.Moves.{cellMove, CellMoves}
-use Rattle.rules.proofs.Steps.{after-checked, not-false, var-is, zero-cond, free-cell, empty-slot, has-room, room-sent, room-same, free-not-busy, stays-cell, stays-cell-message}
+use Rattle.rules.proofs.Steps.{after-checked, not-false, var-is, zero-cond, free-cell, empty-slot, has-room, room-sent, room-same, free-not-busy, makes-cell, makes-cell-message}
 
 -- a message that carries the weight n of the entry e of worker o, and is no Read, Answer, Ask or Supply
 pub record Sends (𝓜 : Machine) (s : Tables) (o e n : ℕ) (m : Message) : Type 0 where
@@ -40,7 +40,7 @@ pub record Sends (𝓜 : Machine) (s : Tables) (o e n : ℕ) (m : Message) : Typ
   pub no-ahead : (t : Tables) → ReadAhead 𝓜 t 0 m
   pub no-answer : (t : Tables) → AnswerFact 𝓜 t m
 
-module _ (𝓜 : Machine) (L : Laws 𝓜) (s : Tables) (I : Invariant 𝓜 s) where
+module _ (𝓜 : Machine) (L : Laws 𝓜) (s : Tables) (F : Facts 𝓜 s) where
   pub reference-sends : (to o e n : ℕ) → to < s .p → 1 ≤ n → Sends 𝓜 s o e n (Reference to o e n)
   reference-sends to o e n u i =
       record { ok = λ t q. (omega arith, i); no-read = λ v d. refl; no-ask = λ v d. refl; holds = λ t a b. refl; no-ahead = λ t. tt; no-answer = λ t. tt }
@@ -51,25 +51,25 @@ module _ (𝓜 : Machine) (L : Laws 𝓜) (s : Tables) (I : Invariant 𝓜 s) wh
 
   pub weight-some : (w c o e n : ℕ) (st : Status) (a : Bool) → cell 𝓜 s w c ≡ Ex o e n st a → 1 ≤ n
   weight-some w c o e n st a q =
-      let f : CellFact 𝓜 s w (Ex o e n st a) = subst (CellFact 𝓜 s w) q (I .facts .cells w c) in
+      let f : CellFact 𝓜 s w (Ex o e n st a) = subst (CellFact 𝓜 s w) q (F .cells w c) in
       f .2
 
   -- a worker that is no refusal's
   pub worker-used : (w : ℕ) → leb (s .p) w ≡ false → (w < s .p) × (w < 𝓜 .workers)
-  worker-used w h = (leb-false (s .p) w h, omega (arith, leb-false (s .p) w h, I .facts .p-le))
+  worker-used w h = (leb-false (s .p) w h, omega (arith, leb-false (s .p) w h, F .p-le))
 
   -- ---- new
   new-moves : (w c : ℕ) → w < s .p → booked s w < freeCells 𝓜 s w → c < 𝓜 .cells → cell 𝓜 s w c ≡ Free → CellMoves 𝓜 L s w c Free Var 0 (message s 0) (message s 0)
   new-moves w c u r l q =
       record {
-        w-in = omega (arith, I .facts .p-le);
+        w-in = omega (arith, F .p-le);
         c-in = l;
         i-in = L .slots-some;
         old-cell = q;
         old-message = refl;
         cell-ok = u;
         message-ok = inl refl;
-        busy-kept = λ b v. absurd (free-not-busy 𝓜 L s (I .facts) w c q b);
+        busy-kept = λ b v. absurd (free-not-busy 𝓜 L s F w c q b);
         var-kept = λ x v. absurd-bool v refl;
         ex-new = λ d a b t y. absurd-bool t refl;
         reads = λ v d. refl;
@@ -83,14 +83,14 @@ module _ (𝓜 : Machine) (L : Laws 𝓜) (s : Tables) (I : Invariant 𝓜 s) wh
       go v true t =
           let e = eqb-true w v t in
           subst (λ (y : ℕ). booked s y + bit (goesTo y (message s 0)) + 1 ≤ freeCells 𝓜 s y + bit (goesTo y (message s 0)) + 0) e (omega arith)
-      go v false t = omega (arith, I .facts .room v)
+      go v false t = omega (arith, F .room v)
 
-  pub new-stays : (w : ℕ) → Invariant 𝓜 (new 𝓜 s w .after)
+  pub new-makes : (w : ℕ) → Makes 𝓜 s (new 𝓜 s w .after)
   unfolding new
-  new-stays w =
+  new-makes w =
       let c = lowestFreeCell 𝓜 s w in
-      after-checked (Invariant 𝓜) s (newRefusals 𝓜 s w) (record { outcome = Done c; after = putCell 𝓜 s w c Var }) I
-      (λ p. let u = worker-used w (search) in let r = has-room 𝓜 L s (I .facts) w (search) in let f = free-cell 𝓜 L s (I .facts) w (omega arith) in stays-cell 𝓜 L s (I .facts) I w c Free Var (new-moves w c (u .0) r (f .0) (f .1)) (record { read-ok = inl refl; answer-ok = inl refl; known-ok = inr tt }))
+      after-checked (Makes 𝓜 s) s (newRefusals 𝓜 s w) (record { outcome = Done c; after = putCell 𝓜 s w c Var }) nothing
+      (λ p. let u = worker-used w (search) in let r = has-room 𝓜 L s F w (search) in let f = free-cell 𝓜 L s F w (omega arith) in makes-cell 𝓜 L s F w c Free Var (new-moves w c (u .0) r (f .0) (f .1)) (record { read-ok = inl refl; answer-ok = inl refl; known-ok = inr tt }))
 
   -- ---- set and bind: a VAR gets its value, or becomes a REF
   var-moves : (w c : ℕ) (k : Kind) → cell 𝓜 s w c ≡ Var → CellFact 𝓜 (next 𝓜 s (cellMove 𝓜 s w c Var k 0 (message s 0) (message s 0))) w k → (exported 𝓜 s w c ≡ true → VarBecomes 𝓜 s w k) → isEx k ≡ false → isFree k ≡ false → CellMoves 𝓜 L s w c Var k 0 (message s 0) (message s 0)
@@ -115,21 +115,21 @@ module _ (𝓜 : Machine) (L : Laws 𝓜) (s : Tables) (I : Invariant 𝓜 s) wh
       }
     where
       zeroes : (v : ℕ) (t : Bool) (n : ℕ) → n ≡ 0 → booked s v + bit (goesTo v (message s 0)) + cond t 0 0 ≤ freeCells 𝓜 s v + bit (goesTo v (message s 0)) + cond t n 0
-      zeroes v true n e = omega (arith, I .facts .room v)
-      zeroes v false n e = omega (arith, I .facts .room v)
+      zeroes v true n e = omega (arith, F .room v)
+      zeroes v false n e = omega (arith, F .room v)
 
-  pub set-stays : (w c n : ℕ) → Invariant 𝓜 (set 𝓜 s w c n .after)
+  pub set-makes : (w c n : ℕ) → Makes 𝓜 s (set 𝓜 s w c n .after)
   unfolding set
-  set-stays w c n =
-      after-checked (Invariant 𝓜) s (setRefusals 𝓜 s w c) (record { outcome = Done 0; after = putCell 𝓜 s w c (Val n) }) I
-      (λ p. let u = worker-used w (search) in let q = var-is (cell 𝓜 s w c) (not-false (search)) in stays-cell 𝓜 L s (I .facts) I w c Var (Val n) (var-moves w c (Val n) q (u .0) (λ x. stays refl) refl refl) (record { read-ok = inl refl; answer-ok = inl refl; known-ok = inr tt }))
+  set-makes w c n =
+      after-checked (Makes 𝓜 s) s (setRefusals 𝓜 s w c) (record { outcome = Done 0; after = putCell 𝓜 s w c (Val n) }) nothing
+      (λ p. let u = worker-used w (search) in let q = var-is (cell 𝓜 s w c) (not-false (search)) in makes-cell 𝓜 L s F w c Var (Val n) (var-moves w c (Val n) q (u .0) (λ x. stays refl) refl refl) (record { read-ok = inl refl; answer-ok = inl refl; known-ok = inr tt }))
 
-  pub bind-stays : (w c x : ℕ) → Invariant 𝓜 (bind 𝓜 s w c x .after)
+  pub bind-makes : (w c x : ℕ) → Makes 𝓜 s (bind 𝓜 s w c x .after)
   unfolding bind endKind
-  bind-stays w c x =
+  bind-makes w c x =
       let y = end 𝓜 s w x in
-      after-checked (Invariant 𝓜) s (bindRefusals 𝓜 s w c x) (record { outcome = Done 0; after = putCell 𝓜 s w c (Ref y) }) I
-      (λ p. let u = worker-used w (search) in let q = var-is (cell 𝓜 s w c) (not-false (search)) in let ex : isEx (cell 𝓜 s w y) ≡ true = not-false (search) in let guarded : (exported 𝓜 s w c && not (safe 𝓜 s w (cell 𝓜 s w y))) ≡ false = search in stays-cell 𝓜 L s (I .facts) I w c Var (Ref y) (var-moves w c (Ref y) q (u .0, ref-ex q ex) (λ e. bound y refl (safe-of (exported 𝓜 s w c) (safe 𝓜 s w (cell 𝓜 s w y)) e guarded)) refl refl) (record { read-ok = inl refl; answer-ok = inl refl; known-ok = inr tt }))
+      after-checked (Makes 𝓜 s) s (bindRefusals 𝓜 s w c x) (record { outcome = Done 0; after = putCell 𝓜 s w c (Ref y) }) nothing
+      (λ p. let u = worker-used w (search) in let q = var-is (cell 𝓜 s w c) (not-false (search)) in let ex : isEx (cell 𝓜 s w y) ≡ true = not-false (search) in let guarded : (exported 𝓜 s w c && not (safe 𝓜 s w (cell 𝓜 s w y))) ≡ false = search in makes-cell 𝓜 L s F w c Var (Ref y) (var-moves w c (Ref y) q (u .0, ref-ex q ex) (λ e. bound y refl (safe-of (exported 𝓜 s w c) (safe 𝓜 s w (cell 𝓜 s w y)) e guarded)) refl refl) (record { read-ok = inl refl; answer-ok = inl refl; known-ok = inr tt }))
     where
       safe-of : (a b : Bool) → a ≡ true → (a && not b) ≡ false → b ≡ true
       safe-of true true e g = refl
@@ -140,7 +140,7 @@ module _ (𝓜 : Machine) (L : Laws 𝓜) (s : Tables) (I : Invariant 𝓜 s) wh
       ref-ex q ex =
           let inside = cell-inside 𝓜 s w c (ap isFree q) in
           let placed : Placed 𝓜 s (cellMove 𝓜 s w c Var (Ref (end 𝓜 s w x)) 0 (message s 0) (message s 0)) = record { w-in = inside .0; c-in = inside .1; o-in = L .workers-some; e-in = L .entries-some; i-in = L .slots-some; old-cell = q; old-entry = refl; old-message = refl } in
-          ap isEx (cell-stored 𝓜 s (cellMove 𝓜 s w c Var (Ref (end 𝓜 s w x)) 0 (message s 0) (message s 0)) (I .facts .sized) placed .there w (end 𝓜 s w x) (λ a b. absurd-bool ex (ap isEx (ap (cell 𝓜 s w) (sym b) ∙ q))))
+          ap isEx (cell-stored 𝓜 s (cellMove 𝓜 s w c Var (Ref (end 𝓜 s w x)) 0 (message s 0) (message s 0)) (F .sized) placed .there w (end 𝓜 s w x) (λ a b. absurd-bool ex (ap isEx (ap (cell 𝓜 s w) (sym b) ∙ q))))
           ∙ ex
 
   -- ---- a cell that is not busy is freed, its weight, if it has one, going into the slot i
@@ -182,9 +182,9 @@ module _ (𝓜 : Machine) (L : Laws 𝓜) (s : Tables) (I : Invariant 𝓜 s) wh
       }
 
   -- nothing is sent
-  frees-only : (w c : ℕ) (k₀ : Kind) → cell 𝓜 s w c ≡ k₀ → isFree k₀ ≡ false → busy 𝓜 s w c ≡ false → ((a b : ℕ) → cellHolds 𝓜 s a b k₀ ≡ 0) → Invariant 𝓜 (putCell 𝓜 s w c Free)
+  frees-only : (w c : ℕ) (k₀ : Kind) → cell 𝓜 s w c ≡ k₀ → isFree k₀ ≡ false → busy 𝓜 s w c ≡ false → ((a b : ℕ) → cellHolds 𝓜 s a b k₀ ≡ 0) → Makes 𝓜 s (putCell 𝓜 s w c Free)
   frees-only w c k₀ q nf idle light =
-      stays-cell 𝓜 L s (I .facts) I w c k₀ Free
+      makes-cell 𝓜 L s F w c k₀ Free
       (frees w c k₀ 0 (message s 0) (message s 0)
       (record {
         i-in = L .slots-some;
@@ -197,15 +197,15 @@ module _ (𝓜 : Machine) (L : Laws 𝓜) (s : Tables) (I : Invariant 𝓜 s) wh
         asks = λ v d. refl;
         weights = λ a b. omega (arith, light a b);
         holds-ok = inl refl;
-        room = λ v. omega (arith, I .facts .room v);
+        room = λ v. omega (arith, F .room v);
       }))
       (record { read-ok = inl refl; answer-ok = inl refl; known-ok = inr tt })
 
   -- an EX's whole weight goes into an empty slot, as a Reference or as a Release
-  frees-sent : (w c o e n : ℕ) (st : Status) (a : Bool) (m : Message) → cell 𝓜 s w c ≡ Ex o e n st a → busy 𝓜 s w c ≡ false → leb (𝓜 .slots) (lowestEmptySlot 𝓜 s) ≡ false → Sends 𝓜 s o e n m → ((v : ℕ) → booked s v + bit (goesTo v m) ≤ freeCells 𝓜 s v + 0) → Invariant 𝓜 (putMessage (putCell 𝓜 s w c Free) (lowestEmptySlot 𝓜 s) m)
+  frees-sent : (w c o e n : ℕ) (st : Status) (a : Bool) (m : Message) → cell 𝓜 s w c ≡ Ex o e n st a → busy 𝓜 s w c ≡ false → leb (𝓜 .slots) (lowestEmptySlot 𝓜 s) ≡ false → Sends 𝓜 s o e n m → ((v : ℕ) → booked s v + bit (goesTo v m) ≤ freeCells 𝓜 s v + 0) → Makes 𝓜 s (putMessage (putCell 𝓜 s w c Free) (lowestEmptySlot 𝓜 s) m)
   frees-sent w c o e n st a m q idle full z room =
-      let slot = empty-slot 𝓜 L s (I .facts) full in
-      stays-cell-message 𝓜 L s (I .facts) I w c (Ex o e n st a) Free (lowestEmptySlot 𝓜 s) Empty m
+      let slot = empty-slot 𝓜 L s F full in
+      makes-cell-message 𝓜 L s F w c (Ex o e n st a) Free (lowestEmptySlot 𝓜 s) Empty m
       (frees w c (Ex o e n st a) (lowestEmptySlot 𝓜 s) Empty m
       (record {
         i-in = slot .0;
@@ -223,17 +223,17 @@ module _ (𝓜 : Machine) (L : Laws 𝓜) (s : Tables) (I : Invariant 𝓜 s) wh
       (record { read-ok = inr (0, z .no-ahead (next 𝓜 s (cellMove 𝓜 s w c (Ex o e n st a) Free (lowestEmptySlot 𝓜 s) Empty m))); answer-ok = inr (z .no-answer (next 𝓜 s (cellMove 𝓜 s w c (Ex o e n st a) Free (lowestEmptySlot 𝓜 s) Empty m))); known-ok = inr tt })
 
   -- "transfer"
-  pub transfer-stays : (w c to : ℕ) → Invariant 𝓜 (transfer 𝓜 s w c to .after)
+  pub transfer-makes : (w c to : ℕ) → Makes 𝓜 s (transfer 𝓜 s w c to .after)
   unfolding transfer
-  transfer-stays w c to =
-      after-checked (Invariant 𝓜) s (transferRefusals 𝓜 s w c to) (record { outcome = Done (lowestEmptySlot 𝓜 s); after = putMessage (putCell 𝓜 s w c Free) (lowestEmptySlot 𝓜 s) (sendsWhole to (cell 𝓜 s w c)) }) I
-      (λ p. let u = worker-used to (search) in let x = the-ex (cell 𝓜 s w c) (not-false (search)) in let r = has-room 𝓜 L s (I .facts) to (search) in subst (λ (k : Kind). Invariant 𝓜 (putMessage (putCell 𝓜 s w c Free) (lowestEmptySlot 𝓜 s) (sendsWhole to k))) (sym (x .is)) (frees-sent w c (x .owner) (x .entry) (x .weight) (x .status) (x .asking) (Reference to (x .owner) (x .entry) (x .weight)) (x .is) (search) (search) (reference-sends to (x .owner) (x .entry) (x .weight) (u .0) (weight-some w c (x .owner) (x .entry) (x .weight) (x .status) (x .asking) (x .is))) (room-sent 𝓜 L s (I .facts) to (x .owner) (x .entry) (x .weight) r)))
+  transfer-makes w c to =
+      after-checked (Makes 𝓜 s) s (transferRefusals 𝓜 s w c to) (record { outcome = Done (lowestEmptySlot 𝓜 s); after = putMessage (putCell 𝓜 s w c Free) (lowestEmptySlot 𝓜 s) (sendsWhole to (cell 𝓜 s w c)) }) nothing
+      (λ p. let u = worker-used to (search) in let x = the-ex (cell 𝓜 s w c) (not-false (search)) in let r = has-room 𝓜 L s F to (search) in subst (λ (k : Kind). Makes 𝓜 s (putMessage (putCell 𝓜 s w c Free) (lowestEmptySlot 𝓜 s) (sendsWhole to k))) (sym (x .is)) (frees-sent w c (x .owner) (x .entry) (x .weight) (x .status) (x .asking) (Reference to (x .owner) (x .entry) (x .weight)) (x .is) (search) (search) (reference-sends to (x .owner) (x .entry) (x .weight) (u .0) (weight-some w c (x .owner) (x .entry) (x .weight) (x .status) (x .asking) (x .is))) (room-sent 𝓜 L s F to (x .owner) (x .entry) (x .weight) r)))
 
   -- "drop"
-  pub drop-stays : (w c : ℕ) → Invariant 𝓜 (drop 𝓜 s w c .after)
+  pub drop-makes : (w c : ℕ) → Makes 𝓜 s (drop 𝓜 s w c .after)
   unfolding drop
-  drop-stays w c =
-      after-checked (Invariant 𝓜) s (dropRefusals 𝓜 s w c) (dropped (cell 𝓜 s w c)) I
+  drop-makes w c =
+      after-checked (Makes 𝓜 s) s (dropRefusals 𝓜 s w c) (dropped (cell 𝓜 s w c)) nothing
       (λ p. go (cell 𝓜 s w c) refl (search) (search) (search))
     where
       dropped : Kind → Result
@@ -241,7 +241,7 @@ module _ (𝓜 : Machine) (L : Laws 𝓜) (s : Tables) (I : Invariant 𝓜 s) wh
           cond (isEx k) (record { outcome = Done (lowestEmptySlot 𝓜 s); after = putMessage (putCell 𝓜 s w c Free) (lowestEmptySlot 𝓜 s) (releases k) })
           (record { outcome = Done 64; after = putCell 𝓜 s w c Free })
 
-      go : (k : Kind) → cell 𝓜 s w c ≡ k → isFree (cell 𝓜 s w c) ≡ false → busy 𝓜 s w c ≡ false → (isEx (cell 𝓜 s w c) && leb (𝓜 .slots) (lowestEmptySlot 𝓜 s)) ≡ false → Invariant 𝓜 (dropped k .after)
+      go : (k : Kind) → cell 𝓜 s w c ≡ k → isFree (cell 𝓜 s w c) ≡ false → busy 𝓜 s w c ≡ false → (isEx (cell 𝓜 s w c) && leb (𝓜 .slots) (lowestEmptySlot 𝓜 s)) ≡ false → Makes 𝓜 s (dropped k .after)
       go Free q nf idle full = absurd-bool (ap isFree q) nf
       go Var q nf idle full = frees-only w c Var q refl idle (λ a b. refl)
       go (Val n) q nf idle full = frees-only w c (Val n) q refl idle (λ a b. refl)
@@ -250,4 +250,4 @@ module _ (𝓜 : Machine) (L : Laws 𝓜) (s : Tables) (I : Invariant 𝓜 s) wh
           frees-sent w c o e n st a (Release o e n) q idle
           (subst (λ (k : Kind). (isEx k && leb (𝓜 .slots) (lowestEmptySlot 𝓜 s)) ≡ false) q full)
           (release-sends o e n (weight-some w c o e n st a q))
-          (room-same 𝓜 L s (I .facts))
+          (room-same 𝓜 L s F)

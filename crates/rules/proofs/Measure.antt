@@ -24,10 +24,11 @@ use Rattle.tables.specs.Parts.{isFree, isLive}
 use Rattle.tables.specs.Look.{cell, entry, liveEntries, message, putCell, putEntry, putMessage}
 use Rattle.rules.specs.Calls.{costs, B}
 use Rattle.rules.specs.Machines.{Laws}
-use Rattle.rules.specs.Facts.{Facts, EndsIn}
+use Rattle.rules.specs.Chains.{EndsIn}
+use Rattle.rules.specs.Facts.{Facts}
 use Rattle.rules.proofs.Inside.{cell-inside}
 use Rattle.rules.proofs.Derived.{LivePlace}
-use Rattle.rules.specs.Change.{Change, next, Keeps, Carries, Ranked, Invariant}
+use Rattle.rules.specs.Move.{Move, next, Keeps, Carries, Makes, moved, Ranked, Invariant}
 use Rattle.rules.proofs.Stored.{stored-each}
 use Rattle.rules.proofs.Next.{cell-stored, entry-stored, slots-total}
 use Rattle.rules.proofs.Onward.{ends-kept}
@@ -102,8 +103,9 @@ kind-same (Val n) = tt
 kind-same (Ref d) = tt
 kind-same (Ex o e n st a) = record { weight = n; status = st; asking = a; is = refl; on = status-same st }
 
--- a delivery: the invariant stays, by the same rank, and less is left to be delivered
+-- a delivery is a move: the invariant stays, by the same rank, and less is left to be delivered
 pub record Arrived (𝓜 : Machine) (s : Tables) (r : ℕ → ℕ → ℕ) (s′ : Tables) : Type 0 where
+  pub makes : Makes 𝓜 s s′
   pub invariant : Invariant 𝓜 s′
   pub ranked : Ranked 𝓜 s′ r
   pub lower : measure 𝓜 s′ r < measure 𝓜 s r
@@ -112,7 +114,7 @@ pub record Arrived (𝓜 : Machine) (s : Tables) (r : ℕ → ℕ → ℕ) (s′
 
 module _ (𝓜 : Machine) (L : Laws 𝓜) (s : Tables) (I : Invariant 𝓜 s) (r : ℕ → ℕ → ℕ) (R : Ranked 𝓜 s r) where
   -- where a change makes no entry, no more of them stand at a rank
-  fewer : (h : Change) → Keeps 𝓜 s h → (isLive (h .x) ≡ true → isLive (h .x₀) ≡ true) → (ρ : ℕ) → standing 𝓜 (next 𝓜 s h) r ρ ≤ standing 𝓜 s r ρ
+  fewer : (h : Move) → Keeps 𝓜 s h → (isLive (h .x) ≡ true → isLive (h .x₀) ≡ true) → (ρ : ℕ) → standing 𝓜 (next 𝓜 s h) r ρ ≤ standing 𝓜 s r ρ
   unfolding standing
   fewer h K old ρ =
       sum-mono (𝓜 .workers * 𝓜 .entries) (λ j. bit (standsAt 𝓜 (next 𝓜 s h) r ρ j)) (λ j. bit (standsAt 𝓜 s r ρ j))
@@ -129,10 +131,11 @@ module _ (𝓜 : Machine) (L : Laws 𝓜) (s : Tables) (I : Invariant 𝓜 s) (r
       le false b c f = omega arith
 
   -- a change whose message takes less than the one before it
-  pub arrived : (h : Change) → (K : Keeps 𝓜 s h) → Carries 𝓜 s h → (isLive (h .x) ≡ true → isLive (h .x₀) ≡ true) → spends 𝓜 (next 𝓜 s h) r (h .m) < spends 𝓜 (next 𝓜 s h) r (h .m₀) → KindOn (h .k₀) (h .k) → Arrived 𝓜 s r (next 𝓜 s h)
+  pub arrived : (h : Move) → (K : Keeps 𝓜 s h) → Carries 𝓜 s h → (isLive (h .x) ≡ true → isLive (h .x₀) ≡ true) → spends 𝓜 (next 𝓜 s h) r (h .m) < spends 𝓜 (next 𝓜 s h) r (h .m₀) → KindOn (h .k₀) (h .k) → Arrived 𝓜 s r (next 𝓜 s h)
   unfolding measure
   arrived h K C old less on =
       record {
+        makes = moved h K C;
         invariant = invariant-kept 𝓜 s h I K C;
         ranked = rank-kept 𝓜 s h (I .facts) K r R old;
         lower =

@@ -30,15 +30,15 @@ use Rattle.rules.specs.Sound.{readsFor, asksFor, cellHolds, messageHolds
 use Rattle.rules.specs.Machines.{Laws}
 use Rattle.rules.specs.Facts.{CellFact, EntryFact, MessageFact, Facts}
 use Rattle.rules.proofs.Inside.{cell-inside}
-use Rattle.rules.specs.Change.{Change, next, seen, VarBecomes, stays, Keeps}
+use Rattle.rules.specs.Move.{Move, next, shown, VarBecomes, stays, Keeps}
 
 -- a change of the cell c of worker w and of the slot i; the entry that stands first is left as it is
-abbrev pub cellMove : Machine → Tables → ℕ → ℕ → Kind → Kind → ℕ → Message → Message → Change
+abbrev pub cellMove : Machine → Tables → ℕ → ℕ → Kind → Kind → ℕ → Message → Message → Move
 cellMove 𝓜 s w c k₀ k i m₀ m =
     record { w = w; c = c; k₀ = k₀; k = k; o = 0; e = 0; x₀ = entry 𝓜 s 0 0; x = entry 𝓜 s 0 0; i = i; m₀ = m₀; m = m }
 
 -- a change of the entry e of worker o and of the slot i
-abbrev pub entryMove : Machine → Tables → ℕ → ℕ → Holding → Holding → ℕ → Message → Message → Change
+abbrev pub entryMove : Machine → Tables → ℕ → ℕ → Holding → Holding → ℕ → Message → Message → Move
 entryMove 𝓜 s o e x₀ x i m₀ m =
     record { w = 0; c = 0; k₀ = cell 𝓜 s 0 0; k = cell 𝓜 s 0 0; o = o; e = e; x₀ = x₀; x = x; i = i; m₀ = m₀; m = m }
 
@@ -86,7 +86,7 @@ module _ (𝓜 : Machine) (L : Laws 𝓜) (s : Tables) where
     pub old-message : message s i ≡ m₀
     pub cell-ok : CellFact 𝓜 (next 𝓜 s (cellMove 𝓜 s w c k₀ k i m₀ m)) w k
     pub message-ok : (m ≡ m₀) ⊎ MessageFact 𝓜 (next 𝓜 s (cellMove 𝓜 s w c k₀ k i m₀ m)) m
-    pub busy-kept : busy 𝓜 s w c ≡ true → isVar k₀ ≡ false → seen k ≡ seen k₀
+    pub busy-kept : busy 𝓜 s w c ≡ true → isVar k₀ ≡ false → shown k ≡ shown k₀
     pub var-kept : exported 𝓜 s w c ≡ true → isVar k₀ ≡ true → VarBecomes 𝓜 s w k
     pub ex-new : (d a b : ℕ) → exNames a b k ≡ true → exNames a b (cell 𝓜 s w d) ≡ true → d ≡ c
     pub reads : (v d : ℕ) → bit (readsFor v d m) + cond (eqb w v && eqb c d) (bit (isReading k₀)) 0 ≡ bit (readsFor v d m₀) + cond (eqb w v && eqb c d) (bit (isReading k)) 0

@@ -25,10 +25,10 @@ use Rattle.tables.specs.Parts.{isFree}
 use Rattle.tables.specs.Look.{kindAt, cell, entry, message, freeCells}
 use Rattle.tables.specs.Laws.{cell-in}
 use Rattle.rules.specs.Machines.{Sized}
-use Rattle.rules.specs.Change.{Change, next, Placed}
+use Rattle.rules.specs.Move.{Move, next, Placed}
 use Rattle.rules.proofs.Stored.{Stored, stored-row, rows-stored}
 
-module _ (𝓜 : Machine) (s : Tables) (h : Change) (z : Sized 𝓜 s) (P : Placed 𝓜 s h) where
+module _ (𝓜 : Machine) (s : Tables) (h : Move) (z : Sized 𝓜 s) (P : Placed 𝓜 s h) where
   -- ---- each table before and after
   pub cell-stored : Stored (cell 𝓜 s) (cell 𝓜 (next 𝓜 s h)) (h .w) (h .c) (h .k₀) (h .k)
   unfolding cell

@@ -15,14 +15,13 @@ use Rattle.tables.specs.declared.Place.the-variants.{Nowhere, At}
 use Rattle.tables.specs.Machine.{Machine, Tables}
 use Rattle.tables.specs.Parts.{isFree, isVar, isEx, namedBy, isLive, entryNames, cellOf}
 use Rattle.tables.specs.Look.{cell, entry, endKind, safe, exported}
-use Rattle.rules.specs.Sound.{follow, through}
-use Rattle.rules.specs.Refusals.{entryEnd}
-use Rattle.rules.specs.Facts.{CellFact, Facts, ahead, EndsIn}
+use Rattle.rules.specs.Chains.{entryEnd, through, follow, ahead, EndsIn}
+use Rattle.rules.specs.Facts.{CellFact, Facts}
 use Rattle.rules.proofs.Named.{nowhere-at, the-live, IsLive}
 use Rattle.rules.proofs.Busy.{exported-by}
 use Rattle.rules.proofs.Derived.{live-fact, LivePlace, follow-place, ahead-place}
-use Rattle.rules.specs.Change.{Change, next, seen, Keeps}
-use Rattle.rules.proofs.Kept.{seen-name, seen-plain, var-val-end, exported-seen, referred-seen, ex-after, VarAfter, var-or-val, ref-to-safe, var-after, live-kept, end-ref, end-self, facts-kept}
+use Rattle.rules.specs.Move.{Move, next, shown, Keeps}
+use Rattle.rules.proofs.Kept.{shown-name, shown-plain, var-val-end, exported-shown, referred-shown, ex-after, VarAfter, var-or-val, ref-to-safe, var-after, live-kept, end-ref, end-self, facts-kept}
 
 -- from nowhere no step leads on
 pub ahead-nowhere : (𝓜 : Machine) (s : Tables) (n : ℕ) → ahead 𝓜 s n Nowhere ≡ Nowhere
@@ -44,7 +43,7 @@ follow-from 𝓜 s a b o e q = go (entry 𝓜 s a b) refl q
     go Unused i p = nowhere-at p
     go (Live d n t) i p = record { cell = d; weight = n; tainted = t; is = i }
 
-module _ (𝓜 : Machine) (s : Tables) (h : Change) (F : Facts 𝓜 s) (K : Keeps 𝓜 s h) where
+module _ (𝓜 : Machine) (s : Tables) (h : Move) (F : Facts 𝓜 s) (K : Keeps 𝓜 s h) where
   F′ : Facts 𝓜 (next 𝓜 s h)
   F′ = facts-kept 𝓜 s h F K
 
@@ -75,20 +74,20 @@ module _ (𝓜 : Machine) (s : Tables) (h : Change) (F : Facts 𝓜 s) (K : Keep
       go Free q t = absurd-bool refl t
       go Var q t = var-end v d x q
       go (Val n) q t =
-          let here : cell 𝓜 (next 𝓜 s h) v d ≡ Val n = seen-plain (cell 𝓜 (next 𝓜 s h) v d) (Val n) refl (exported-seen 𝓜 s h F K v d x (ap isVar q) ∙ ap seen q) in
+          let here : cell 𝓜 (next 𝓜 s h) v d ≡ Val n = shown-plain (cell 𝓜 (next 𝓜 s h) v d) (Val n) refl (exported-shown 𝓜 s h F K v d x (ap isVar q) ∙ ap shown q) in
           let now = end-self 𝓜 (next 𝓜 s h) v d (Val n) here refl in
           let was = end-self 𝓜 s v d (Val n) q refl in
           as-before (ap namedBy (now ∙ sym was)) (λ m p. now ∙ sym was ∙ p)
       go (Ref y) q t =
-          let here : cell 𝓜 (next 𝓜 s h) v d ≡ Ref y = seen-plain (cell 𝓜 (next 𝓜 s h) v d) (Ref y) refl (exported-seen 𝓜 s h F K v d x (ap isVar q) ∙ ap seen q) in
+          let here : cell 𝓜 (next 𝓜 s h) v d ≡ Ref y = shown-plain (cell 𝓜 (next 𝓜 s h) v d) (Ref y) refl (exported-shown 𝓜 s h F K v d x (ap isVar q) ∙ ap shown q) in
           let f : CellFact 𝓜 s v (Ref y) = subst (λ (k : Kind). CellFact 𝓜 s v k) q (F .cells v d) in
           let now = end-ref 𝓜 (next 𝓜 s h) v d y here in
           let was = end-ref 𝓜 s v d y q in
           as-before
-          (ap namedBy now ∙ seen-name Nowhere (λ owner entr. At owner entr) (cell 𝓜 (next 𝓜 s h) v y) (cell 𝓜 s v y) (referred-seen 𝓜 s h F K v d y q (f .1)) ∙ sym (ap namedBy was))
+          (ap namedBy now ∙ shown-name Nowhere (λ owner entr. At owner entr) (cell 𝓜 (next 𝓜 s h) v y) (cell 𝓜 s v y) (referred-shown 𝓜 s h F K v d y q (f .1)) ∙ sym (ap namedBy was))
           (λ n p. absurd-bool (f .1) (ap isEx (sym was ∙ p)))
       go (Ex o e n st a) q t =
-          let x′ = ex-after 𝓜 s h F K v d o e n st a q (exported-seen 𝓜 s h F K v d x (ap isVar q)) in
+          let x′ = ex-after 𝓜 s h F K v d o e n st a q (exported-shown 𝓜 s h F K v d x (ap isVar q)) in
           let was = end-self 𝓜 s v d (Ex o e n st a) q refl in
           let now = end-self 𝓜 (next 𝓜 s h) v d (Ex o e (x′ .weight) (x′ .status) (x′ .asking)) (x′ .is) refl in
           as-before (ap namedBy now ∙ sym (ap namedBy was)) (λ m p. let z : _≡_ {A = ℕ} 0 1 = cc in absurd (omega arith))

@@ -13,11 +13,12 @@ use Rattle.tables.specs.declared.Place.the-variants.{At}
 use Rattle.tables.specs.Machine.{Machine, Tables}
 use Rattle.tables.specs.Parts.{isEx, namedBy, isLive, isTainted}
 use Rattle.tables.specs.Look.{cell, entry, end, endKind, safe}
-use Rattle.rules.specs.Sound.{varValOrSafe, follow}
+use Rattle.rules.specs.Chains.{follow}
+use Rattle.rules.specs.Sound.{varValOrSafe}
 use Rattle.rules.specs.Facts.{CellFact, Facts}
 use Rattle.rules.proofs.Named.{named-ex, the-live, IsLive}
 use Rattle.rules.proofs.Derived.{named-place, follow-place}
-use Rattle.rules.specs.Change.{Change, next, Keeps, Ranked}
+use Rattle.rules.specs.Move.{Move, next, Keeps, Ranked}
 use Rattle.rules.proofs.Stored.{Stored, stored-each}
 use Rattle.rules.proofs.Next.{entry-stored}
 use Rattle.rules.proofs.Kept.{good-ex, live-kept, facts-kept}
@@ -42,7 +43,7 @@ named-other 𝓜 s F v d o e q w =
     let f : CellFact 𝓜 s v (Ex o e (x .weight) (x .status) (x .asking)) = subst (CellFact 𝓜 s v) (x .is) (F .cells v d) in
     f .1 w
 
-module _ (𝓜 : Machine) (s : Tables) (h : Change) (F : Facts 𝓜 s) (K : Keeps 𝓜 s h) (r : ℕ → ℕ → ℕ) (R : Ranked 𝓜 s r) where
+module _ (𝓜 : Machine) (s : Tables) (h : Move) (F : Facts 𝓜 s) (K : Keeps 𝓜 s h) (r : ℕ → ℕ → ℕ) (R : Ranked 𝓜 s r) where
   F′ : Facts 𝓜 (next 𝓜 s h)
   F′ = facts-kept 𝓜 s h F K
 

@@ -13,8 +13,8 @@ use Rattle.tables.specs.declared.Place.the-variants.{Nowhere, At}
 use Rattle.tables.specs.Machine.{Machine, Tables}
 use Rattle.tables.specs.Parts.{isLive}
 use Rattle.tables.specs.Look.{entry}
-use Rattle.rules.specs.Sound.{follow, reached}
-use Rattle.rules.specs.Facts.{ahead}
+use Rattle.rules.specs.Chains.{follow, ahead}
+use Rattle.rules.specs.Sound.{reached}
 use Rattle.rules.proofs.Inside.{entry-inside}
 use Rattle.rules.proofs.FromTest.{walk-ahead}
 use Rattle.rules.proofs.ToTest.{ahead-walk}
@@ -80,12 +80,12 @@ module _ (𝓜 : Machine) (s : Tables) where
     -- a walk that is too long visits a place twice, and can be cut short
     cut : (n : ℕ) → 𝓜 .workers * 𝓜 .entries ≤ n → ahead 𝓜 s n from ≡ At o e → (m : ℕ) × (m < n) × (ahead 𝓜 s m from ≡ At o e)
     cut n long q =
-        let seen = visited n q in
-        let t = pigeon (𝓜 .workers * 𝓜 .entries) (λ i. index 𝓜 (ahead 𝓜 s i from)) (λ i l. index-less (ahead 𝓜 s i from) (seen i (omega arith))) in
+        let met = visited n q in
+        let t = pigeon (𝓜 .workers * 𝓜 .entries) (λ i. index 𝓜 (ahead 𝓜 s i from)) (λ i l. index-less (ahead 𝓜 s i from) (met i (omega arith))) in
         let i = t .first in
         let j = t .second in
         let j-in : j ≤ n = omega (arith, t .within) in
-        let same = index-same (ahead 𝓜 s i from) (ahead 𝓜 s j from) (seen i (omega (arith, t .before))) (seen j j-in) (t .same) in (
+        let same = index-same (ahead 𝓜 s i from) (ahead 𝓜 s j from) (met i (omega (arith, t .before))) (met j j-in) (t .same) in (
           i + (n - j),
           omega (arith, t .before),
           ahead-add 𝓜 s i (n - j) from ∙ ap (ahead 𝓜 s (n - j)) same ∙ sym (split j n j-in) ∙ q,

@@ -26,19 +26,20 @@ use Rattle.rules.specs.Sound.{varValOrSafe}
 use Rattle.rules.specs.Refusals.{entryToUse, sendRefusals, byReferenceRefusals, byLocationRefusals, indirectRefusals, readSends, readRefusals, askRefusals}
 use Rattle.rules.specs.Calls.{gains, byLocation, keeps, sends, byReference, export, indirect, readAt, read, askEx, ask}
 use Rattle.rules.specs.Machines.{Laws}
-use Rattle.rules.specs.Facts.{CellFact, EntryFact, ahead}
+use Rattle.rules.specs.Chains.{ahead}
+use Rattle.rules.specs.Facts.{CellFact, EntryFact, Facts}
 use Rattle.rules.proofs.Inside.{cell-inside}
 use Rattle.rules.proofs.Named.{the-ex, the-entry-of, eq-both}
 use Rattle.rules.proofs.Busy.{own-entry, not-exported}
 use Rattle.rules.proofs.Derived.{live-fact}
-use Rattle.rules.specs.Change.{next, Invariant}
+use Rattle.rules.specs.Move.{next, Makes, nothing}
 use Rattle.rules.proofs.Next.{cell-stored}
 use Rattle.rules.proofs.Moves.{cellMove, entryMove}
-use Rattle.rules.proofs.Steps.{after-checked, not-false, cond-add, free-entry, empty-slot, has-room, room-sent, room-same, stays-ex, stays-entry}
+use Rattle.rules.proofs.Steps.{after-checked, not-false, cond-add, free-entry, empty-slot, has-room, room-sent, room-same, makes-ex, makes-entry}
 use Rattle.rules.proofs.Local.{worker-used, weight-some}
 use Rattle.rules.proofs.Entries.{entry-next}
 
-module _ (𝓜 : Machine) (L : Laws 𝓜) (s : Tables) (I : Invariant 𝓜 s) where
+module _ (𝓜 : Machine) (L : Laws 𝓜) (s : Tables) (F : Facts 𝓜 s) where
   -- ---- by location: the cell x of worker w, whose end is itself
   pub record Locates (w x to : ℕ) (taint : Bool) : Type 0 where
     pub w-in : w < 𝓜 .workers
@@ -52,10 +53,10 @@ module _ (𝓜 : Machine) (L : Laws 𝓜) (s : Tables) (I : Invariant 𝓜 s) wh
     pub slot : leb (𝓜 .slots) (lowestEmptySlot 𝓜 s) ≡ false
 
   -- an entry e that gains the first weight
-  located : (w x to : ℕ) (taint : Bool) → Locates w x to taint → (e : ℕ) (x₀ y : Holding) → e < 𝓜 .entries → entry 𝓜 s w e ≡ x₀ → EntryFact 𝓜 (next 𝓜 s (entryMove 𝓜 s w e x₀ y (lowestEmptySlot 𝓜 s) Empty (Reference to w e (𝓜 .firstWeight)))) w y → (isLive x₀ ≡ true → isLive y ≡ true → (cellOf y ≡ cellOf x₀) × (isTainted y ≡ isTainted x₀)) → ((f d : ℕ) → entryNames d y ≡ true → entryNames d (entry 𝓜 s w f) ≡ true → f ≡ e) → entryWeight x₀ + 𝓜 .firstWeight ≡ entryWeight y → Invariant 𝓜 (putMessage (putEntry 𝓜 s w e y) (lowestEmptySlot 𝓜 s) (Reference to w e (𝓜 .firstWeight)))
+  located : (w x to : ℕ) (taint : Bool) → Locates w x to taint → (e : ℕ) (x₀ y : Holding) → e < 𝓜 .entries → entry 𝓜 s w e ≡ x₀ → EntryFact 𝓜 (next 𝓜 s (entryMove 𝓜 s w e x₀ y (lowestEmptySlot 𝓜 s) Empty (Reference to w e (𝓜 .firstWeight)))) w y → (isLive x₀ ≡ true → isLive y ≡ true → (cellOf y ≡ cellOf x₀) × (isTainted y ≡ isTainted x₀)) → ((f d : ℕ) → entryNames d y ≡ true → entryNames d (entry 𝓜 s w f) ≡ true → f ≡ e) → entryWeight x₀ + 𝓜 .firstWeight ≡ entryWeight y → Makes 𝓜 s (putMessage (putEntry 𝓜 s w e y) (lowestEmptySlot 𝓜 s) (Reference to w e (𝓜 .firstWeight)))
   located w x to taint l e x₀ y e-in q fact kept new more =
-      let free = empty-slot 𝓜 L s (I .facts) (l .slot) in
-      stays-entry 𝓜 L s (I .facts) I w e x₀ y (lowestEmptySlot 𝓜 s) Empty (Reference to w e (𝓜 .firstWeight))
+      let free = empty-slot 𝓜 L s F (l .slot) in
+      makes-entry 𝓜 L s F w e x₀ y (lowestEmptySlot 𝓜 s) Empty (Reference to w e (𝓜 .firstWeight))
       (record {
         o-in = l .w-in;
         e-in = e-in;
@@ -70,57 +71,57 @@ module _ (𝓜 : Machine) (L : Laws 𝓜) (s : Tables) (I : Invariant 𝓜 s) wh
         asks = λ v d. refl;
         weights = λ a b. omega (arith, cond-add (eqb w a && eqb e b) (entryWeight x₀) (𝓜 .firstWeight) (entryWeight y) more);
         holds-ok = λ a b. refl;
-        room = room-sent 𝓜 L s (I .facts) to w e (𝓜 .firstWeight) (l .room);
+        room = room-sent 𝓜 L s F to w e (𝓜 .firstWeight) (l .room);
       })
       (record { read-ok = inr (0, tt); answer-ok = inr tt; known-ok = inl (λ k. k) })
 
-  by-location-stays : (w x to : ℕ) (taint : Bool) → Locates w x to taint → Invariant 𝓜 (byLocation 𝓜 s w x to taint .after)
+  by-location-makes : (w x to : ℕ) (taint : Bool) → Locates w x to taint → Makes 𝓜 s (byLocation 𝓜 s w x to taint .after)
   unfolding byLocation entryToUse
-  by-location-stays w x to taint l = go (exported 𝓜 s w x) refl (l .has-entry) (l .below)
+  by-location-makes w x to taint l = go (exported 𝓜 s w x) refl (l .has-entry) (l .below)
     where
       k : ℕ
       k = lowestEmptySlot 𝓜 s
 
-      go : (b : Bool) → exported 𝓜 s w x ≡ b → leb (𝓜 .entries) (cond b (entryOf 𝓜 s w x) (lowestFreeEntry 𝓜 s w)) ≡ false → entryWeight (entry 𝓜 s w (cond b (entryOf 𝓜 s w x) (lowestFreeEntry 𝓜 s w))) + 𝓜 .firstWeight ≤ 𝓜 .ceiling → Invariant 𝓜 (putMessage (putEntry 𝓜 s w (cond b (entryOf 𝓜 s w x) (lowestFreeEntry 𝓜 s w)) (gains (𝓜 .firstWeight) x taint (entry 𝓜 s w (cond b (entryOf 𝓜 s w x) (lowestFreeEntry 𝓜 s w))))) (lowestEmptySlot 𝓜 s) (Reference to w (cond b (entryOf 𝓜 s w x) (lowestFreeEntry 𝓜 s w)) (𝓜 .firstWeight)))
+      go : (b : Bool) → exported 𝓜 s w x ≡ b → leb (𝓜 .entries) (cond b (entryOf 𝓜 s w x) (lowestFreeEntry 𝓜 s w)) ≡ false → entryWeight (entry 𝓜 s w (cond b (entryOf 𝓜 s w x) (lowestFreeEntry 𝓜 s w))) + 𝓜 .firstWeight ≤ 𝓜 .ceiling → Makes 𝓜 s (putMessage (putEntry 𝓜 s w (cond b (entryOf 𝓜 s w x) (lowestFreeEntry 𝓜 s w)) (gains (𝓜 .firstWeight) x taint (entry 𝓜 s w (cond b (entryOf 𝓜 s w x) (lowestFreeEntry 𝓜 s w))))) (lowestEmptySlot 𝓜 s) (Reference to w (cond b (entryOf 𝓜 s w x) (lowestFreeEntry 𝓜 s w)) (𝓜 .firstWeight)))
       go true ex more below =
           let e = entryOf 𝓜 s w x in
           let n = the-entry-of x (entry 𝓜 s w e) (own-entry 𝓜 s w x ex) in
-          let slot = empty-slot 𝓜 L s (I .facts) (l .slot) in
-          let fact = live-fact 𝓜 s (I .facts) w e (record { cell = x; weight = n .weight; tainted = n .tainted; is = n .is }) in
+          let slot = empty-slot 𝓜 L s F (l .slot) in
+          let fact = live-fact 𝓜 s F w e (record { cell = x; weight = n .weight; tainted = n .tainted; is = n .is }) in
           let y = Live x (n .weight + 𝓜 .firstWeight) (n .tainted) in
           let less = leb-false (𝓜 .entries) e more in
-          subst (λ (h : Holding). Invariant 𝓜 (putMessage (putEntry 𝓜 s w e (gains (𝓜 .firstWeight) x taint h)) (lowestEmptySlot 𝓜 s) (Reference to w e (𝓜 .firstWeight)))) (sym (n .is))
+          subst (λ (h : Holding). Makes 𝓜 s (putMessage (putEntry 𝓜 s w e (gains (𝓜 .firstWeight) x taint h)) (lowestEmptySlot 𝓜 s) (Reference to w e (𝓜 .firstWeight)))) (sym (n .is))
           (located w x to taint l e (Live x (n .weight) (n .tainted)) y less (n .is)
-          (entry-next 𝓜 L s (I .facts) w e (Live x (n .weight) (n .tainted)) y (lowestEmptySlot 𝓜 s) Empty (Reference to w e (𝓜 .firstWeight)) (l .w-in) less (slot .0) (n .is) (slot .1) x (n .weight + 𝓜 .firstWeight) (n .tainted) (omega (arith, ap entryWeight (n .is))) (omega (arith, fact .1)) (fact .2) (fact .3))
+          (entry-next 𝓜 L s F w e (Live x (n .weight) (n .tainted)) y (lowestEmptySlot 𝓜 s) Empty (Reference to w e (𝓜 .firstWeight)) (l .w-in) less (slot .0) (n .is) (slot .1) x (n .weight + 𝓜 .firstWeight) (n .tainted) (omega (arith, ap entryWeight (n .is))) (omega (arith, fact .1)) (fact .2) (fact .3))
           (λ a b. (refl, refl))
-          (λ f d t u. I .facts .entry-once w f e d u (ap (entryNames d) (n .is) ∙ t))
+          (λ f d t u. F .entry-once w f e d u (ap (entryNames d) (n .is) ∙ t))
           refl)
       go false ex more below =
           let e = lowestFreeEntry 𝓜 s w in
-          let free = free-entry 𝓜 L s (I .facts) w more in
-          let slot = empty-slot 𝓜 L s (I .facts) (l .slot) in
+          let free = free-entry 𝓜 L s F w more in
+          let slot = empty-slot 𝓜 L s F (l .slot) in
           let y = Live x (𝓜 .firstWeight) taint in
-          subst (λ (h : Holding). Invariant 𝓜 (putMessage (putEntry 𝓜 s w e (gains (𝓜 .firstWeight) x taint h)) (lowestEmptySlot 𝓜 s) (Reference to w e (𝓜 .firstWeight)))) (sym (free .1))
+          subst (λ (h : Holding). Makes 𝓜 s (putMessage (putEntry 𝓜 s w e (gains (𝓜 .firstWeight) x taint h)) (lowestEmptySlot 𝓜 s) (Reference to w e (𝓜 .firstWeight)))) (sym (free .1))
           (located w x to taint l e Unused y (free .0) (free .1)
-          (entry-next 𝓜 L s (I .facts) w e Unused y (lowestEmptySlot 𝓜 s) Empty (Reference to w e (𝓜 .firstWeight)) (l .w-in) (free .0) (slot .0) (free .1) (slot .1) x (𝓜 .firstWeight) taint (omega (arith, ap entryWeight (free .1))) (L .first-some) (l .not-free) (λ u. ap (varValOrSafe 𝓜 s w) (l .own-end) ∙ l .good u))
+          (entry-next 𝓜 L s F w e Unused y (lowestEmptySlot 𝓜 s) Empty (Reference to w e (𝓜 .firstWeight)) (l .w-in) (free .0) (slot .0) (free .1) (slot .1) x (𝓜 .firstWeight) taint (omega (arith, ap entryWeight (free .1))) (L .first-some) (l .not-free) (λ u. ap (varValOrSafe 𝓜 s w) (l .own-end) ∙ l .good u))
           (λ a b. absurd-bool a refl)
           (λ f d t u. absurd-bool (subst (λ (c : ℕ). entryNames c (entry 𝓜 s w f) ≡ true) (sym (eqb-true x d t)) u) (not-exported 𝓜 s w x ex f))
           (omega arith))
 
   -- ---- by reference
-  by-reference-stays : (w x to : ℕ) → to < s .p → isEx (cell 𝓜 s w x) ≡ true → leb (exWeight (cell 𝓜 s w x)) 1 ≡ false → booked s to < freeCells 𝓜 s to → leb (𝓜 .slots) (lowestEmptySlot 𝓜 s) ≡ false → Invariant 𝓜 (byReference 𝓜 s w x to .after)
+  by-reference-makes : (w x to : ℕ) → to < s .p → isEx (cell 𝓜 s w x) ≡ true → leb (exWeight (cell 𝓜 s w x)) 1 ≡ false → booked s to < freeCells 𝓜 s to → leb (𝓜 .slots) (lowestEmptySlot 𝓜 s) ≡ false → Makes 𝓜 s (byReference 𝓜 s w x to .after)
   unfolding byReference
-  by-reference-stays w x to u ex heavy room full =
+  by-reference-makes w x to u ex heavy room full =
       let y = the-ex (cell 𝓜 s w x) ex in
       let o = y .owner in
       let e = y .entry in
       let n = y .weight in
-      let slot = empty-slot 𝓜 L s (I .facts) full in
+      let slot = empty-slot 𝓜 L s F full in
       let more : 1 < n = leb-false n 1 (sym (ap (λ (k : Kind). leb (exWeight k) 1) (y .is)) ∙ heavy) in
       let part = 𝓜 .split n in
       let less = L .split-less n more in
-      subst (λ (k : Kind). Invariant 𝓜 (putMessage (putCell 𝓜 s w x (keeps 𝓜 k)) (lowestEmptySlot 𝓜 s) (sends 𝓜 to k))) (sym (y .is))
-      (stays-ex 𝓜 L s (I .facts) I w x o e n (n - part) (y .status) (y .status) (y .asking) (y .asking) (lowestEmptySlot 𝓜 s) Empty (Reference to o e part)
+      subst (λ (k : Kind). Makes 𝓜 s (putMessage (putCell 𝓜 s w x (keeps 𝓜 k)) (lowestEmptySlot 𝓜 s) (sends 𝓜 to k))) (sym (y .is))
+      (makes-ex 𝓜 L s F w x o e n (n - part) (y .status) (y .status) (y .asking) (y .asking) (lowestEmptySlot 𝓜 s) Empty (Reference to o e part)
       (record {
         i-in = slot .0;
         old-cell = y .is;
@@ -131,7 +132,7 @@ module _ (𝓜 : Machine) (L : Laws 𝓜) (s : Tables) (I : Invariant 𝓜 s) wh
         asks = λ v d. refl;
         weights = λ a b. omega (arith, cond-add (eqb o a && eqb e b) (n - part) part n (omega arith));
         holds-ok = λ a b. refl;
-        room = room-sent 𝓜 L s (I .facts) to o e part room;
+        room = room-sent 𝓜 L s F to o e part room;
       })
       (record { read-ok = inr (0, tt); answer-ok = inr tt; known-ok = inl (λ k. k) }))
 
@@ -150,7 +151,7 @@ module _ (𝓜 : Machine) (L : Laws 𝓜) (s : Tables) (I : Invariant 𝓜 s) wh
       go Var q t = rw (q, q) (refl, q)
       go (Val n) q t = rw (q, q) (refl, q)
       go (Ref d) q t =
-          let f : CellFact 𝓜 s w (Ref d) = subst (CellFact 𝓜 s w) q (I .facts .cells w c) in
+          let f : CellFact 𝓜 s w (Ref d) = subst (CellFact 𝓜 s w) q (F .cells w c) in
           rw q (ex-end d (f .1))
       go (Ex o e n st a) q t = rw (q, q) (refl, q)
 
@@ -164,40 +165,40 @@ module _ (𝓜 : Machine) (L : Laws 𝓜) (s : Tables) (I : Invariant 𝓜 s) wh
       go Var q t u o = ap (varValOrSafe 𝓜 s w) q
       go (Val n) q t u o = ap (varValOrSafe 𝓜 s w) q
       go (Ref d) q t u o =
-          let f : CellFact 𝓜 s w (Ref d) = subst (CellFact 𝓜 s w) q (I .facts .cells w x) in
+          let f : CellFact 𝓜 s w (Ref d) = subst (CellFact 𝓜 s w) q (F .cells w x) in
           let at-d : cell 𝓜 s w d ≡ Ref d = sym (ap (λ (k : Kind). cell 𝓜 s w (endFrom k x)) q) ∙ o ∙ q in
           absurd-bool (f .1) (ap isEx at-d)
       go (Ex a b n st z) q t u o = absurd-bool refl u
 
-  pub export-stays : (w c to : ℕ) → Invariant 𝓜 (export 𝓜 s w c to .after)
+  pub export-makes : (w c to : ℕ) → Makes 𝓜 s (export 𝓜 s w c to .after)
   unfolding export endKind
-  export-stays w c to = go (isEx (cell 𝓜 s w (end 𝓜 s w c))) refl
+  export-makes w c to = go (isEx (cell 𝓜 s w (end 𝓜 s w c))) refl
     where
       x : ℕ
       x = end 𝓜 s w c
 
-      go : (b : Bool) → isEx (cell 𝓜 s w (end 𝓜 s w c)) ≡ b → Invariant 𝓜 (checked s (sendRefusals 𝓜 s w c to ++ cond b (byReferenceRefusals 𝓜 s w (end 𝓜 s w c) to) (byLocationRefusals 𝓜 s w (end 𝓜 s w c) to)) (cond b (byReference 𝓜 s w (end 𝓜 s w c) to) (byLocation 𝓜 s w (end 𝓜 s w c) to false)) .after)
+      go : (b : Bool) → isEx (cell 𝓜 s w (end 𝓜 s w c)) ≡ b → Makes 𝓜 s (checked s (sendRefusals 𝓜 s w c to ++ cond b (byReferenceRefusals 𝓜 s w (end 𝓜 s w c) to) (byLocationRefusals 𝓜 s w (end 𝓜 s w c) to)) (cond b (byReference 𝓜 s w (end 𝓜 s w c) to) (byLocation 𝓜 s w (end 𝓜 s w c) to false)) .after)
       go true ex =
-          after-checked (Invariant 𝓜) s (sendRefusals 𝓜 s w c to ++ byReferenceRefusals 𝓜 s w (end 𝓜 s w c) to) (byReference 𝓜 s w (end 𝓜 s w c) to) I
-          (λ p. by-reference-stays w (end 𝓜 s w c) to (worker-used 𝓜 L s I to (search) .0) ex (search) (has-room 𝓜 L s (I .facts) to (search)) (search))
+          after-checked (Makes 𝓜 s) s (sendRefusals 𝓜 s w c to ++ byReferenceRefusals 𝓜 s w (end 𝓜 s w c) to) (byReference 𝓜 s w (end 𝓜 s w c) to) nothing
+          (λ p. by-reference-makes w (end 𝓜 s w c) to (worker-used 𝓜 L s F to (search) .0) ex (search) (has-room 𝓜 L s F to (search)) (search))
       go false ne =
-          after-checked (Invariant 𝓜) s (sendRefusals 𝓜 s w c to ++ byLocationRefusals 𝓜 s w (end 𝓜 s w c) to) (byLocation 𝓜 s w (end 𝓜 s w c) to false) I
-          (λ p. let own = end-not-ref w c (search) in by-location-stays w (end 𝓜 s w c) to false (record { w-in = worker-used 𝓜 L s I w (search) .1; to-used = worker-used 𝓜 L s I to (search) .0; not-free = own .0; own-end = own .1; good = λ u. plain-end w (end 𝓜 s w c) (own .0) ne (own .1); below = ltb-false (𝓜 .ceiling) (entryWeight (entry 𝓜 s w (entryToUse 𝓜 s w (end 𝓜 s w c))) + 𝓜 .firstWeight) (search); has-entry = search; room = has-room 𝓜 L s (I .facts) to (search); slot = search }))
+          after-checked (Makes 𝓜 s) s (sendRefusals 𝓜 s w c to ++ byLocationRefusals 𝓜 s w (end 𝓜 s w c) to) (byLocation 𝓜 s w (end 𝓜 s w c) to false) nothing
+          (λ p. let own = end-not-ref w c (search) in by-location-makes w (end 𝓜 s w c) to false (record { w-in = worker-used 𝓜 L s F w (search) .1; to-used = worker-used 𝓜 L s F to (search) .0; not-free = own .0; own-end = own .1; good = λ u. plain-end w (end 𝓜 s w c) (own .0) ne (own .1); below = ltb-false (𝓜 .ceiling) (entryWeight (entry 𝓜 s w (entryToUse 𝓜 s w (end 𝓜 s w c))) + 𝓜 .firstWeight) (search); has-entry = search; room = has-room 𝓜 L s F to (search); slot = search }))
 
-  pub indirect-stays : (w c to : ℕ) → Invariant 𝓜 (indirect 𝓜 s w c to .after)
+  pub indirect-makes : (w c to : ℕ) → Makes 𝓜 s (indirect 𝓜 s w c to .after)
   unfolding indirect endKind
-  indirect-stays w c to =
+  indirect-makes w c to =
       let x = end 𝓜 s w c in
       let taint = not (safe 𝓜 s w (cell 𝓜 s w x)) in
-      after-checked (Invariant 𝓜) s (indirectRefusals 𝓜 s w c to) (byLocation 𝓜 s w x to taint) I
-      (λ p. let own = end-not-ref w c (search) in by-location-stays w x to taint (record { w-in = worker-used 𝓜 L s I w (search) .1; to-used = worker-used 𝓜 L s I to (search) .0; not-free = own .0; own-end = own .1; good = λ u. or-r (isVar (cell 𝓜 s w x) || isVal (cell 𝓜 s w x)) (not-false u); below = ltb-false (𝓜 .ceiling) (entryWeight (entry 𝓜 s w (entryToUse 𝓜 s w x)) + 𝓜 .firstWeight) (search); has-entry = search; room = has-room 𝓜 L s (I .facts) to (search); slot = search }))
+      after-checked (Makes 𝓜 s) s (indirectRefusals 𝓜 s w c to) (byLocation 𝓜 s w x to taint) nothing
+      (λ p. let own = end-not-ref w c (search) in by-location-makes w x to taint (record { w-in = worker-used 𝓜 L s F w (search) .1; to-used = worker-used 𝓜 L s F to (search) .0; not-free = own .0; own-end = own .1; good = λ u. or-r (isVar (cell 𝓜 s w x) || isVal (cell 𝓜 s w x)) (not-false u); below = ltb-false (𝓜 .ceiling) (entryWeight (entry 𝓜 s w (entryToUse 𝓜 s w x)) + 𝓜 .firstWeight) (search); has-entry = search; room = has-room 𝓜 L s F to (search); slot = search }))
 
   -- ---- read and ask
   -- an EX that waits for the message that goes into the empty slot
   here-named : (w x o e n n′ : ℕ) (st st′ : Status) (a a′ : Bool) (i : ℕ) (m : Message) → i < 𝓜 .slots → message s i ≡ Empty → cell 𝓜 s w x ≡ Ex o e n st a → cell 𝓜 (next 𝓜 s (cellMove 𝓜 s w x (Ex o e n st a) (Ex o e n′ st′ a′) i Empty m)) w x ≡ Ex o e n′ st′ a′
   here-named w x o e n n′ st st′ a a′ i m l q old =
       let inside = cell-inside 𝓜 s w x (ap isFree old) in
-      cell-stored 𝓜 s (cellMove 𝓜 s w x (Ex o e n st a) (Ex o e n′ st′ a′) i Empty m) (I .facts .sized)
+      cell-stored 𝓜 s (cellMove 𝓜 s w x (Ex o e n st a) (Ex o e n′ st′ a′) i Empty m) (F .sized)
       (record { w-in = inside .0; c-in = inside .1; o-in = L .workers-some; e-in = L .entries-some; i-in = l; old-cell = old; old-entry = refl; old-message = q })
       .here
 
@@ -205,73 +206,73 @@ module _ (𝓜 : Machine) (L : Laws 𝓜) (s : Tables) (I : Invariant 𝓜 s) wh
   mark-on true = refl
   mark-on false = refl
 
-  read-sent : (w x o e n : ℕ) (a : Bool) → cell 𝓜 s w x ≡ Ex o e n Idle a → leb (𝓜 .slots) (lowestEmptySlot 𝓜 s) ≡ false → Invariant 𝓜 (putMessage (putCell 𝓜 s w x (Ex o e n Reading a)) (lowestEmptySlot 𝓜 s) (Read w x o e))
+  read-sent : (w x o e n : ℕ) (a : Bool) → cell 𝓜 s w x ≡ Ex o e n Idle a → leb (𝓜 .slots) (lowestEmptySlot 𝓜 s) ≡ false → Makes 𝓜 s (putMessage (putCell 𝓜 s w x (Ex o e n Reading a)) (lowestEmptySlot 𝓜 s) (Read w x o e))
   unfolding ahead
   read-sent w x o e n a q full =
       let k = lowestEmptySlot 𝓜 s in
-      let slot = empty-slot 𝓜 L s (I .facts) full in
-      stays-ex 𝓜 L s (I .facts) I w x o e n n Idle Reading a a k Empty (Read w x o e)
+      let slot = empty-slot 𝓜 L s F full in
+      makes-ex 𝓜 L s F w x o e n n Idle Reading a a k Empty (Read w x o e)
       (record {
         i-in = slot .0;
         old-cell = q;
         old-message = slot .1;
-        some = weight-some 𝓜 L s I w x o e n Idle a q;
+        some = weight-some 𝓜 L s F w x o e n Idle a q;
         message-ok = tt;
         reads = λ v d. mark-on (eqb w v && eqb x d);
         asks = λ v d. refl;
         weights = λ a b. refl;
         holds-ok = λ a b. refl;
-        room = room-same 𝓜 L s (I .facts);
+        room = room-same 𝓜 L s F;
       })
       (record { read-ok = inr (0, ap namedBy (here-named w x o e n n Idle Reading a a k (Read w x o e) (slot .0) (slot .1) q)); answer-ok = inr tt; known-ok = inr tt })
 
-  pub read-stays : (w c : ℕ) → Invariant 𝓜 (read 𝓜 s w c .after)
+  pub read-makes : (w c : ℕ) → Makes 𝓜 s (read 𝓜 s w c .after)
   unfolding read endKind
-  read-stays w c =
-      after-checked (Invariant 𝓜) s (readRefusals 𝓜 s w c) (readAt 𝓜 s w (end 𝓜 s w c) (cell 𝓜 s w (end 𝓜 s w c))) I
+  read-makes w c =
+      after-checked (Makes 𝓜 s) s (readRefusals 𝓜 s w c) (readAt 𝓜 s w (end 𝓜 s w c) (cell 𝓜 s w (end 𝓜 s w c))) nothing
       (λ p. go (cell 𝓜 s w (end 𝓜 s w c)) refl (search))
     where
       x : ℕ
       x = end 𝓜 s w c
 
-      go : (k : Kind) → cell 𝓜 s w (end 𝓜 s w c) ≡ k → (onEx false (λ o e n st a. readSends st) k && leb (𝓜 .slots) (lowestEmptySlot 𝓜 s)) ≡ false → Invariant 𝓜 (readAt 𝓜 s w (end 𝓜 s w c) k .after)
-      go Free q t = I
-      go Var q t = I
-      go (Val n) q t = I
-      go (Ref d) q t = I
+      go : (k : Kind) → cell 𝓜 s w (end 𝓜 s w c) ≡ k → (onEx false (λ o e n st a. readSends st) k && leb (𝓜 .slots) (lowestEmptySlot 𝓜 s)) ≡ false → Makes 𝓜 s (readAt 𝓜 s w (end 𝓜 s w c) k .after)
+      go Free q t = nothing
+      go Var q t = nothing
+      go (Val n) q t = nothing
+      go (Ref d) q t = nothing
       go (Ex o e n Idle a) q t = read-sent w (end 𝓜 s w c) o e n a q t
-      go (Ex o e n Reading a) q t = I
-      go (Ex o e n (Known v) a) q t = I
+      go (Ex o e n Reading a) q t = nothing
+      go (Ex o e n (Known v) a) q t = nothing
 
-  ask-sent : (w x o e n : ℕ) (st : Status) → cell 𝓜 s w x ≡ Ex o e n st false → leb (𝓜 .slots) (lowestEmptySlot 𝓜 s) ≡ false → Invariant 𝓜 (putMessage (putCell 𝓜 s w x (Ex o e n st true)) (lowestEmptySlot 𝓜 s) (Ask w x o e))
+  ask-sent : (w x o e n : ℕ) (st : Status) → cell 𝓜 s w x ≡ Ex o e n st false → leb (𝓜 .slots) (lowestEmptySlot 𝓜 s) ≡ false → Makes 𝓜 s (putMessage (putCell 𝓜 s w x (Ex o e n st true)) (lowestEmptySlot 𝓜 s) (Ask w x o e))
   ask-sent w x o e n st q full =
       let k = lowestEmptySlot 𝓜 s in
-      let slot = empty-slot 𝓜 L s (I .facts) full in
-      stays-ex 𝓜 L s (I .facts) I w x o e n n st st false true k Empty (Ask w x o e)
+      let slot = empty-slot 𝓜 L s F full in
+      makes-ex 𝓜 L s F w x o e n n st st false true k Empty (Ask w x o e)
       (record {
         i-in = slot .0;
         old-cell = q;
         old-message = slot .1;
-        some = weight-some 𝓜 L s I w x o e n st false q;
+        some = weight-some 𝓜 L s F w x o e n st false q;
         message-ok = ap (exNames o e) (here-named w x o e n n st st false true k (Ask w x o e) (slot .0) (slot .1) q) ∙ eq-both o e;
         reads = λ v d. refl;
         asks = λ v d. mark-on (eqb w v && eqb x d);
         weights = λ a b. refl;
         holds-ok = λ a b. refl;
-        room = room-same 𝓜 L s (I .facts);
+        room = room-same 𝓜 L s F;
       })
       (record { read-ok = inr (0, tt); answer-ok = inr tt; known-ok = inl (λ k. k) })
 
-  pub ask-stays : (w c : ℕ) → Invariant 𝓜 (ask 𝓜 s w c .after)
+  pub ask-makes : (w c : ℕ) → Makes 𝓜 s (ask 𝓜 s w c .after)
   unfolding ask endKind
-  ask-stays w c =
-      after-checked (Invariant 𝓜) s (askRefusals 𝓜 s w c) (onEx (record { outcome = Waiting; after = s }) (askEx 𝓜 s w (end 𝓜 s w c)) (cell 𝓜 s w (end 𝓜 s w c))) I
+  ask-makes w c =
+      after-checked (Makes 𝓜 s) s (askRefusals 𝓜 s w c) (onEx (record { outcome = Waiting; after = s }) (askEx 𝓜 s w (end 𝓜 s w c)) (cell 𝓜 s w (end 𝓜 s w c))) nothing
       (λ p. go (cell 𝓜 s w (end 𝓜 s w c)) refl (search))
     where
-      go : (k : Kind) → cell 𝓜 s w (end 𝓜 s w c) ≡ k → (not (isAsking k) && leb (𝓜 .slots) (lowestEmptySlot 𝓜 s)) ≡ false → Invariant 𝓜 (onEx (record { outcome = Waiting; after = s }) (askEx 𝓜 s w (end 𝓜 s w c)) k .after)
-      go Free q t = I
-      go Var q t = I
-      go (Val n) q t = I
-      go (Ref d) q t = I
-      go (Ex o e n st true) q t = I
+      go : (k : Kind) → cell 𝓜 s w (end 𝓜 s w c) ≡ k → (not (isAsking k) && leb (𝓜 .slots) (lowestEmptySlot 𝓜 s)) ≡ false → Makes 𝓜 s (onEx (record { outcome = Waiting; after = s }) (askEx 𝓜 s w (end 𝓜 s w c)) k .after)
+      go Free q t = nothing
+      go Var q t = nothing
+      go (Val n) q t = nothing
+      go (Ref d) q t = nothing
+      go (Ex o e n st true) q t = nothing
       go (Ex o e n st false) q t = ask-sent w (end 𝓜 s w c) o e n st q t

@@ -11,11 +11,11 @@ use Rattle.tables.specs.declared.Place.the-variants.{Nowhere, At}
 use Rattle.tables.specs.Machine.{Machine, Tables}
 use Rattle.tables.specs.Parts.{namedBy, isLive, isTainted}
 use Rattle.tables.specs.Look.{entry, endKind}
-use Rattle.rules.specs.Sound.{follow}
+use Rattle.rules.specs.Chains.{follow}
 use Rattle.rules.specs.Facts.{Facts}
 use Rattle.rules.proofs.Named.{the-live, both-eq, eq-both}
 use Rattle.rules.proofs.Derived.{live-fact, follow-place}
-use Rattle.rules.specs.Change.{Change, next, Keeps, Carries, Ranked, Invariant}
+use Rattle.rules.specs.Move.{Move, next, Keeps, Carries, Makes, nothing, moved, Ranked, Invariant}
 use Rattle.rules.proofs.Next.{entry-stored}
 use Rattle.rules.proofs.Kept.{live-kept, facts-kept}
 use Rattle.rules.proofs.Onward.{follow-live}
@@ -26,7 +26,7 @@ rankAt : (ℕ → ℕ → ℕ) → Place → ℕ
 rankAt r Nowhere = 0
 rankAt r (At a b) = r a b
 
-module _ (𝓜 : Machine) (s : Tables) (h : Change) (F : Facts 𝓜 s) (K : Keeps 𝓜 s h) where
+module _ (𝓜 : Machine) (s : Tables) (h : Move) (F : Facts 𝓜 s) (K : Keeps 𝓜 s h) where
   -- a new entry stands above what it leads to; an untainted one at its worker
   newRank : (ℕ → ℕ → ℕ) → ℕ
   newRank r = cond (isTainted (h .x)) (suc (h .o + rankAt r (follow 𝓜 (next 𝓜 s h) (At (h .o) (h .e))))) (h .o)
@@ -72,7 +72,7 @@ module _ (𝓜 : Machine) (s : Tables) (h : Change) (F : Facts 𝓜 s) (K : Keep
           let alive′ = follow-place 𝓜 (next 𝓜 s h) F′ (At (h .o) (h .e)) o e q in
           omega (arith, z .0, R .own o e l (sym (live-kept 𝓜 s h F K o e l alive′ .1) ∙ z .1))
 
-pub invariant-kept : (𝓜 : Machine) (s : Tables) (h : Change) (I : Invariant 𝓜 s) → Keeps 𝓜 s h → Carries 𝓜 s h → Invariant 𝓜 (next 𝓜 s h)
+pub invariant-kept : (𝓜 : Machine) (s : Tables) (h : Move) (I : Invariant 𝓜 s) → Keeps 𝓜 s h → Carries 𝓜 s h → Invariant 𝓜 (next 𝓜 s h)
 invariant-kept 𝓜 s h I K C =
     let F = I .facts in
     record {
@@ -84,6 +84,11 @@ invariant-kept 𝓜 s h I K C =
       ranked = ranked-by 𝓜 s h F K (I .rank) (I .ranked) (nextRank 𝓜 s h F K (I .rank)) (agrees 𝓜 s h F K (I .rank)) (made 𝓜 s h F K (I .rank) (I .ranked));
     }
 
+-- and so under whatever a call makes
+pub invariant-made : (𝓜 : Machine) (s t : Tables) → Invariant 𝓜 s → Makes 𝓜 s t → Invariant 𝓜 t
+invariant-made 𝓜 s t I (nothing) = I
+invariant-made 𝓜 s t I (moved h K C) = invariant-kept 𝓜 s h I K C
+
 -- where the change makes no entry, the rank itself stays
-pub rank-kept : (𝓜 : Machine) (s : Tables) (h : Change) (F : Facts 𝓜 s) (K : Keeps 𝓜 s h) (r : ℕ → ℕ → ℕ) → Ranked 𝓜 s r → (isLive (h .x) ≡ true → isLive (h .x₀) ≡ true) → Ranked 𝓜 (next 𝓜 s h) r
+pub rank-kept : (𝓜 : Machine) (s : Tables) (h : Move) (F : Facts 𝓜 s) (K : Keeps 𝓜 s h) (r : ℕ → ℕ → ℕ) → Ranked 𝓜 s r → (isLive (h .x) ≡ true → isLive (h .x₀) ≡ true) → Ranked 𝓜 (next 𝓜 s h) r
 rank-kept 𝓜 s h F K r R old = ranked-by 𝓜 s h F K r R r (λ a b l. refl) (λ dead live. absurd-bool (old live) dead)

@@ -19,9 +19,10 @@ use Rattle.tables.specs.declared.Place.the-variants.{At}
 use Rattle.tables.specs.Machine.{Machine, Tables}
 use Rattle.tables.specs.Parts.{isFree, readingOf, isReading, isAsking, exNames, namedBy, isAt, isLive, entryNames, entryWeight}
 use Rattle.tables.specs.Look.{cell, entry, endKind, booked, freeCells, message}
-use Rattle.rules.specs.Sound.{readsFor, asksFor, kindInRange, messageInRange, cellInRange, entryInRange, exesNaming, cellNames, entriesNaming, varValOrSafe, entryNamesCell, readsOf, asksOf, cellAwaited, follow, reached, messageHasIts, messageHolds, held, entryWeighs, roomForBooked, point1, point2, point3, point4, point5, point6, sound}
+use Rattle.rules.specs.Chains.{follow, ahead}
+use Rattle.rules.specs.Sound.{readsFor, asksFor, kindInRange, messageInRange, cellInRange, entryInRange, exesNaming, cellNames, entriesNaming, varValOrSafe, entryNamesCell, readsOf, asksOf, cellAwaited, reached, messageHasIts, messageHolds, held, entryWeighs, roomForBooked, point1, point2, point3, point4, point5, point6, sound}
 use Rattle.rules.specs.Machines.{Laws}
-use Rattle.rules.specs.Facts.{CellFact, EntryFact, MessageFact, Facts, ahead, ReadsWithin}
+use Rattle.rules.specs.Facts.{CellFact, EntryFact, MessageFact, Facts, ReadsWithin}
 use Rattle.rules.proofs.Inside.{cell-inside, each-cell-of, each-entry-of, each-message-of}
 use Rattle.rules.proofs.Named.{eq-both, on-ex, ex-not-free}
 use Rattle.rules.proofs.Derived.{cell-used, live-used, held-le, held-live, ex-held, ex-live, names-live, sent-held, reading-cell, asking-cell, named-place, ahead-place}

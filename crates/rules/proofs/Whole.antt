@@ -1,9 +1,10 @@
 -- Demand 3, for every machine whose sizes and weights meet a few laws. Assumes nothing.
-use Prim.Native.Nat.{ℕ, _+_, _≤_}
+use Prim.Native.Nat.{ℕ, zero, suc, _+_, _≤_}
 use native.Mathlib.Omega.{arith}
 use mathlib.Core.Path.{_≡_, refl, sym, ap, subst, _∙_}
 use mathlib.Core.Bool.{Bool, true, false, _&&_, not, cond}
 use mathlib.Core.List.{List, [], _∷_}
+use mathlib.Core.Logic.{_⊎_, inl, inr}
 use lib.Dec.{eqb}
 use borrow.Author.Tests.{eq-eqb, ne-eqb, not-true}
 use Rattle.numbers.specs.Below.{bit}
@@ -23,27 +24,30 @@ use Rattle.tables.specs.declared.Outcome.the-variants.{Done}
 use Rattle.tables.specs.declared.Call.{Call}
 use Rattle.tables.specs.declared.Call.the-variants.{Start, New, Set, Bind, Export, Indirect, Transfer, Drop, ReadCell, AskWeight, Deliver, Bound}
 use Rattle.tables.specs.Machine.{Machine, Tables}
-use Rattle.tables.specs.Parts.{isVar, isReading, namedBy, isLive, entryWeight, isEmpty}
+use Rattle.tables.specs.Parts.{isVar, isReading, namedBy, isLive, cellOf, entryWeight, isEmpty}
 use Rattle.tables.specs.Look.{cell, entry, message}
 use Rattle.rules.specs.Answers.{Result, succeeds, checked}
 use Rattle.rules.specs.Sound.{readsFor, readsOf, held, sound}
-use Rattle.rules.specs.Refusals.{entryEnd, ready, boundRefusals}
+use Rattle.rules.specs.Chains.{entryEnd, ahead, EndsIn}
+use Rattle.rules.specs.Refusals.{ready, boundRefusals}
 use Rattle.rules.specs.Calls.{start, bound, B}
 use Rattle.rules.specs.Deliver.{deliverHome, deliverAway, deliverRelease, deliverRead, deliverAnswer, deliverSupply, deliverAsk, deliverMessage, deliver}
 use Rattle.rules.specs.Step.{isStart, step, run, delivers, drained, successes, Reached, begun, after}
 use Rattle.rules.specs.Machines.{Laws}
-use Rattle.rules.specs.Facts.{EntryFact, ahead, ReadAhead, EndsIn, KnownFact}
-use Rattle.rules.proofs.Derived.{LivePlace, named-place}
+use Rattle.rules.specs.Facts.{EntryFact, ReadAhead, KnownFact}
+use Rattle.rules.proofs.Derived.{LivePlace, live-place, names-live, named-place, ahead-place}
 use Rattle.rules.proofs.Named.{both-eq}
 use Rattle.rules.proofs.ToTest.{facts-sound}
-use Rattle.rules.specs.Change.{Ranked, Invariant}
-use Rattle.rules.specs.Statements.{noStart, FreedAtNothing, NoLoops, AtMostB, holdsReady, AtRest, readOfUnbound, KnownWith, Brought, Demand3}
+use Rattle.rules.specs.Move.{Makes, nothing, Ranked, Invariant}
+use Rattle.rules.specs.Statements.{noStart, FreedAtNothing, NoLoops, AtMostB, holdsReady, AtRest, slotsTaken, TakesReady, RestIsReached, readOfUnbound, KnownWith, Brought, Demand3}
 use Rattle.rules.proofs.Count.{standing-live, reads-within, comes-to-end}
 use Rattle.rules.proofs.Measure.{measure, measure-bound, StatusOn, KindOn, ExOn, Arrived}
+use Rattle.rules.proofs.Stays.{invariant-made}
+use Rattle.rules.proofs.Context.{message-live, own-context, context-made}
 use Rattle.rules.proofs.Steps.{after-checked}
-use Rattle.rules.proofs.Local.{new-stays, set-stays, bind-stays, transfer-stays, drop-stays}
-use Rattle.rules.proofs.Send.{export-stays, indirect-stays, read-stays, ask-stays}
-use Rattle.rules.proofs.Arrive.{message-arrives, deliver-stays}
+use Rattle.rules.proofs.Local.{new-makes, set-makes, bind-makes, transfer-makes, drop-makes}
+use Rattle.rules.proofs.Send.{export-makes, indirect-makes, read-makes, ask-makes}
+use Rattle.rules.proofs.Arrive.{message-arrives, deliver-makes}
 use Rattle.rules.proofs.Begun.{start-invariant}
 use Rattle.rules.proofs.Chains.{ends-one, on-chain}
 
@@ -62,30 +66,32 @@ module _ (𝓜 : Machine) where
   reached-drained s (k ∷ ks) r = reached-drained (deliver 𝓜 s k .after) ks (after r (Deliver k) refl)
 
 module _ (𝓜 : Machine) (L : Laws 𝓜) where
-  -- ---- the invariant holds of every reached state
-  bound-stays : (s : Tables) → Invariant 𝓜 s → Invariant 𝓜 (bound 𝓜 s .after)
+  -- ---- every call makes nothing, or a move; so the invariant holds of every reached state
+  bound-makes : (s : Tables) → Makes 𝓜 s (bound 𝓜 s .after)
   unfolding bound
-  bound-stays s I =
-      after-checked (Invariant 𝓜) s (boundRefusals 𝓜 s) (record { outcome = Done (B 𝓜 s); after = s }) I (λ p. I)
+  bound-makes s =
+      after-checked (Makes 𝓜 s) s (boundRefusals 𝓜 s) (record { outcome = Done (B 𝓜 s); after = s }) nothing (λ p. nothing)
 
-  step-stays : (s : Tables) → Invariant 𝓜 s → (q : Call) → isStart q ≡ false → Invariant 𝓜 (step 𝓜 s q .after)
+  step-makes : (s : Tables) → Invariant 𝓜 s → (q : Call) → isStart q ≡ false → Makes 𝓜 s (step 𝓜 s q .after)
   unfolding step
-  step-stays s I (Start p) n = absurd-bool refl n
-  step-stays s I (New w) n = new-stays 𝓜 L s I w
-  step-stays s I (Set w c v) n = set-stays 𝓜 L s I w c v
-  step-stays s I (Bind w c x) n = bind-stays 𝓜 L s I w c x
-  step-stays s I (Export w c to) n = export-stays 𝓜 L s I w c to
-  step-stays s I (Indirect w c to) n = indirect-stays 𝓜 L s I w c to
-  step-stays s I (Transfer w c to) n = transfer-stays 𝓜 L s I w c to
-  step-stays s I (Drop w c) n = drop-stays 𝓜 L s I w c
-  step-stays s I (ReadCell w c) n = read-stays 𝓜 L s I w c
-  step-stays s I (AskWeight w c) n = ask-stays 𝓜 L s I w c
-  step-stays s I (Deliver k) n = deliver-stays 𝓜 L s I k
-  step-stays s I Bound n = bound-stays s I
+  step-makes s I (Start p) n = absurd-bool refl n
+  step-makes s I (New w) n = new-makes 𝓜 L s (I .facts) w
+  step-makes s I (Set w c v) n = set-makes 𝓜 L s (I .facts) w c v
+  step-makes s I (Bind w c x) n = bind-makes 𝓜 L s (I .facts) w c x
+  step-makes s I (Export w c to) n = export-makes 𝓜 L s (I .facts) w c to
+  step-makes s I (Indirect w c to) n = indirect-makes 𝓜 L s (I .facts) w c to
+  step-makes s I (Transfer w c to) n = transfer-makes 𝓜 L s (I .facts) w c to
+  step-makes s I (Drop w c) n = drop-makes 𝓜 L s (I .facts) w c
+  step-makes s I (ReadCell w c) n = read-makes 𝓜 L s (I .facts) w c
+  step-makes s I (AskWeight w c) n = ask-makes 𝓜 L s (I .facts) w c
+  step-makes s I (Deliver k) n = deliver-makes 𝓜 L s I k
+  step-makes s I Bound n = bound-makes s
 
   pub reached-invariant : (s : Tables) → Reached 𝓜 s → Invariant 𝓜 s
   reached-invariant s (begun p ok) = start-invariant 𝓜 p ok
-  reached-invariant s (after {s = t} r q n) = step-stays t (reached-invariant t r) q n
+  reached-invariant s (after {s = t} r q n) =
+      let I = reached-invariant t r in
+      invariant-made 𝓜 t (step 𝓜 t q .after) I (step-makes t I q n)
 
   -- ---- sound, weights, no loops
   is-sound : (s : Tables) → Invariant 𝓜 s → sound 𝓜 s ≡ true
@@ -105,7 +111,14 @@ module _ (𝓜 : Machine) (L : Laws 𝓜) where
   no-loops s r o e live =
       let I = reached-invariant s r in
       let x = comes-to-end 𝓜 L s (I .facts) (I .rank) (I .ranked) o e live in
-      record { steps = x .steps; owner = x .owner; number = x .number; few = omega (arith, x .few, standing-live 𝓜 L s (I .facts .sized) (I .rank) (I .rank o e)); there = x .there; var-or-val = x .end-plain }
+      let last = ahead-place 𝓜 s (I .facts) (x .steps) (At o e) (live-place 𝓜 s o e live) (x .owner) (x .number) (x .there) in
+      let own = own-context 𝓜 s (I .facts) (x .owner) (x .number) last (x .end-plain) in
+      record {
+        worker = x .owner;
+        number = cellOf (entry 𝓜 s (x .owner) (x .number));
+        leads = record { steps = x .steps; number = x .number; there = x .there; names = own .0; var-or-val = own .1 };
+        few = omega (arith, x .few, standing-live 𝓜 L s (I .facts .sized) (I .rank) (I .rank o e));
+      }
 
   -- ---- one delivery: refused where the slot holds no ready message, and else the message arrives
   message-done : (s : Tables) (k : ℕ) (m : Message) → succeeds (deliverMessage 𝓜 s k m .outcome) ≡ true
@@ -170,6 +183,36 @@ module _ (𝓜 : Machine) (L : Laws 𝓜) where
   at-most-b s r ks =
       let I = reached-invariant s r in
       omega (arith, few-succeed s I (I .rank) (I .ranked) ks, measure-bound 𝓜 L s (I .facts) (I .rank))
+
+  -- ---- rest is reached: each ready message that is taken lowers the measure
+  rest-within : (n : ℕ) (s : Tables) (I : Invariant 𝓜 s) (r : ℕ → ℕ → ℕ) → Ranked 𝓜 s r → measure 𝓜 s r ≤ n → (slot : ℕ → ℕ) → TakesReady 𝓜 s slot → (i : ℕ) × (i ≤ n) × AtRest 𝓜 (drained 𝓜 s (slotsTaken 𝓜 slot i))
+  unfolding drained slotsTaken
+  rest-within zero s I r R few slot takes = go (takes 0) (delivery s I (slot 0))
+    where
+      go : AtRest 𝓜 s ⊎ (holdsReady 𝓜 s (slot 0) ≡ true) → Delivery s (slot 0) → (i : ℕ) × (i ≤ 0) × AtRest 𝓜 (drained 𝓜 s (slotsTaken 𝓜 slot i))
+      go (inl rest) d = (0, omega arith, rest)
+      go (inr is-ready) (refused a b c) = absurd-bool is-ready a
+      go (inr is-ready) (arrives a b c) = absurd (omega (arith, message-arrives 𝓜 L s I r R (slot 0) (message s (slot 0)) refl a b .lower))
+  rest-within (suc n) s I r R few slot takes =
+      go (takes 0) (delivery s I (slot 0)) (λ t J Q less sl tk. rest-within n t J r Q less sl tk)
+    where
+      later : ℕ → ℕ
+      later i = slot (suc i)
+
+      go : AtRest 𝓜 s ⊎ (holdsReady 𝓜 s (slot 0) ≡ true) → Delivery s (slot 0) → ((t : Tables) → Invariant 𝓜 t → Ranked 𝓜 t r → measure 𝓜 t r ≤ n → (sl : ℕ → ℕ) → TakesReady 𝓜 t sl → (i : ℕ) × (i ≤ n) × AtRest 𝓜 (drained 𝓜 t (slotsTaken 𝓜 sl i))) → (i : ℕ) × (i ≤ suc n) × AtRest 𝓜 (drained 𝓜 s (slotsTaken 𝓜 slot i))
+      go (inl rest) d rec = (0, omega arith, rest)
+      go (inr is-ready) (refused a b c) rec = absurd-bool is-ready a
+      go (inr is-ready) (arrives a b c) rec =
+          let x = message-arrives 𝓜 L s I r R (slot 0) (message s (slot 0)) refl a b in
+          let same : deliver 𝓜 s (slot 0) .after ≡ deliverMessage 𝓜 s (slot 0) (message s (slot 0)) .after = ap (λ (y : Result). y .after) c in
+          let t = deliver 𝓜 s (slot 0) .after in
+          let y = rec t (subst (Invariant 𝓜) (sym same) (x .invariant)) (subst (λ (z : Tables). Ranked 𝓜 z r) (sym same) (x .ranked)) (omega (arith, x .lower, ap (λ (z : Tables). measure 𝓜 z r) same)) later (λ i. takes (suc i)) in
+          (suc (y .0), omega (arith, y .1), y .2)
+
+  rest-is-reached : RestIsReached 𝓜
+  rest-is-reached s r =
+      let I = reached-invariant s r in
+      rest-within (B 𝓜 s) s I (I .rank) (I .ranked) (measure-bound 𝓜 L s (I .facts) (I .rank))
 
   -- ---- at rest
   unbound-left : (s : Tables) (m : Message) → (not (isEmpty m) && ready 𝓜 s m) ≡ false → readOfUnbound 𝓜 s m ≡ true
@@ -280,5 +323,10 @@ module _ (𝓜 : Machine) (L : Laws 𝓜) where
         at-most-b = at-most-b;
         ready-succeeds = λ s r ks. delivers-ready (drained 𝓜 s ks) (reached-invariant (drained 𝓜 s ks) (reached-drained 𝓜 s ks r));
         only-unbound-reads = λ s r ks rest k. unbound-left (drained 𝓜 s ks) (message (drained 𝓜 s ks) k) (rest k);
+        rest-is-reached = rest-is-reached;
         brought = brought;
+        refers-to-live =
+            λ s r o e. let I = reached-invariant s r in (λ w c. names-live 𝓜 s (I .facts) w c o e, λ k. message-live 𝓜 s (I .facts) (I .reads) k o e);
+        reference-keeps-context =
+            λ s r q n. let I = reached-invariant s r in context-made 𝓜 s (step 𝓜 s q .after) (I .facts) (step-makes s I q n);
       }

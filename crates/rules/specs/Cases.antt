@@ -16,13 +16,14 @@ use Rattle.tables.specs.declared.Call.{Call}
 use Rattle.tables.specs.declared.Call.the-variants.{Start, New, Set, Bind, Export, Indirect, Transfer, Drop, ReadCell, AskWeight, Deliver}
 use Rattle.tables.specs.declared.Outcome.{Outcome}
 use Rattle.tables.specs.Machine.{Tables, eight}
-use Rattle.tables.specs.Parts.{exWeight, entryWeight, messageWeight}
+use Rattle.tables.specs.Parts.{exWeight, isUnused, entryWeight, messageWeight}
 use Rattle.tables.specs.Look.{cell, entry, end, endKind, safe, entryOf, exported, referred, busy, lowestFreeCell, lowestFreeEntry, lowestEmptySlot, exNaming, freeCells, booked, liveEntries, message, putCell, putEntry, putMessage}
 use Rattle.rules.specs.Answers.{codeOf, valueOf, checked}
-use Rattle.rules.specs.Sound.{exesNaming, entriesNaming, readsOf, asksOf, follow, reached, held, point1, point2, point3, point4, point5, point6, sound}
+use Rattle.rules.specs.Chains.{follow}
+use Rattle.rules.specs.Sound.{exesNaming, entriesNaming, readsOf, asksOf, reached, held, point1, point2, point3, point4, point5, point6, sound}
 use Rattle.rules.specs.Refusals.{entryToUse, ready}
 use Rattle.rules.specs.Calls.{allFree, closed, start, new, set, bind, byLocation, byReference, export, indirect, transfer, drop, read, ask, B, bound}
-use Rattle.rules.specs.Deliver.{arrives, deliverHome, deliverAway, deliverRelease, deliverRead, deliverAnswer, deliverSupply, deliverAsk, deliverMessage, deliver}
+use Rattle.rules.specs.Deliver.{arrivalCell, deliverHome, deliverAway, deliverRelease, deliverRead, deliverAnswer, deliverSupply, deliverAsk, deliverMessage, deliver}
 use Rattle.rules.specs.Step.{step}
 
 abbrev pub isSupply : Message → Bool
@@ -37,11 +38,13 @@ isSupply (Supply a c n) = true
 pub data Row : Type 0 where
   -- a call, its code and its value
   gives : Call → ℕ → ℕ → Row
-  -- the weight of the EX of a worker's cell, of a message in a slot, of a Supply, of an entry (0: it is free)
+  -- the weight of the EX of a worker's cell, of a message in a slot, of a Supply, of an entry
   cellWeighs : ℕ → ℕ → ℕ → Row
   slotWeighs : ℕ → ℕ → Row
   supplyWeighs : ℕ → ℕ → Row
   entryWeighs : ℕ → ℕ → ℕ → Row
+  -- an entry is free
+  entryFree : ℕ → ℕ → Row
 
 -- the answer has this code and value
 abbrev pub answers : Outcome → ℕ → ℕ → Bool
@@ -137,7 +140,7 @@ k9 =
     ∷ gives (Transfer 1 0 0) 0 0
     ∷ entryWeighs 0 0 1024
     ∷ gives (Deliver 0) 0 0
-    ∷ entryWeighs 0 0 0
+    ∷ entryFree 0 0
     ∷ [])
 
 -- "K10 entry at the ceiling, Ask delivered: Supply of 0."
@@ -161,7 +164,7 @@ numberedCases = k1 ∷ k2 ∷ k3 ∷ k4-k5 ∷ k6 ∷ k7 ∷ k8 ∷ k9 ∷ k10 �
 
 -- ---- wrong turnings that the numbered cases leave open
 
--- "Booking forgotten in new: a Reference arrives and finds no cell." Worker 1 has one free cell, its last, and a Reference comes to it.
+-- "Booking forgotten in new: a Reference arrivalCell and finds no cell." Worker 1 has one free cell, its last, and a Reference comes to it.
 unfoldable pub nearlyFull : Tables
 nearlyFull =
     record {
@@ -224,7 +227,7 @@ wholeRun =
 
 -- every row holds, one after the other
 unfoldable pub holdsFrom : Tables → List Row → Bool
-unfolding allBelow sumBelow lowestFrom walkMeets eachFrom total cell entry end endKind safe entryOf exported referred busy lowestFreeCell lowestFreeEntry lowestEmptySlot exNaming freeCells booked liveEntries putCell putEntry putMessage checked exesNaming entriesNaming readsOf asksOf follow reached held point1 point2 point3 point4 point5 point6 sound entryToUse ready allFree start new set bind byLocation byReference export indirect transfer drop read ask B bound arrives deliverHome deliverAway deliverRelease deliverRead deliverAnswer deliverSupply deliverAsk deliverMessage deliver step atCeiling nearlyFull
+unfolding allBelow sumBelow lowestFrom walkMeets eachFrom total cell entry end endKind safe entryOf exported referred busy lowestFreeCell lowestFreeEntry lowestEmptySlot exNaming freeCells booked liveEntries putCell putEntry putMessage checked exesNaming entriesNaming readsOf asksOf follow reached held point1 point2 point3 point4 point5 point6 sound entryToUse ready allFree start new set bind byLocation byReference export indirect transfer drop read ask B bound arrivalCell deliverHome deliverAway deliverRelease deliverRead deliverAnswer deliverSupply deliverAsk deliverMessage deliver step atCeiling nearlyFull
 holdsFrom s [] = true
 holdsFrom s ((gives q code value) ∷ rows) =
     let r = step eight s q in
@@ -234,6 +237,7 @@ holdsFrom s ((slotWeighs k n) ∷ rows) = eqb (messageWeight (message s k)) n &&
 holdsFrom s ((supplyWeighs k n) ∷ rows) =
     isSupply (message s k) && eqb (messageWeight (message s k)) n && holdsFrom s rows
 holdsFrom s ((entryWeighs w e n) ∷ rows) = eqb (entryWeight (entry eight s w e)) n && holdsFrom s rows
+holdsFrom s ((entryFree w e) ∷ rows) = isUnused (entry eight s w e) && holdsFrom s rows
 
 unfoldable pub hold : List Case → Bool
 unfolding holdsFrom

@@ -15,7 +15,8 @@ use Rattle.tables.specs.Machine.{Machine, Tables}
 use Rattle.tables.specs.Parts.{onEx, cellOf, entryWeight}
 use Rattle.tables.specs.Look.{cell, entry, exNaming, lowestFreeCell, message, putCell, putEntry, putMessage}
 use Rattle.rules.specs.Answers.{Result, checked}
-use Rattle.rules.specs.Refusals.{entryEnd, deliverRefusals}
+use Rattle.rules.specs.Chains.{entryEnd}
+use Rattle.rules.specs.Refusals.{deliverRefusals}
 
 -- "the weight is taken off the entry (freed at 0)"
 abbrev pub takenOff : ℕ → Holding → Holding
@@ -55,8 +56,8 @@ readOn r c m (Ex o e n st a) = readOnEx r c o e st
 
 module _ (𝓜 : Machine) (s : Tables) where
   -- the cell of worker w where a Reference to the entry e of worker o arrives
-  unfoldable pub arrives : ℕ → ℕ → ℕ → ℕ
-  arrives w o e =
+  unfoldable pub arrivalCell : ℕ → ℕ → ℕ → ℕ
+  arrivalCell w o e =
       let x = exNaming 𝓜 s w o e in
       let free = lowestFreeCell 𝓜 s w in
       cond (ltb x (𝓜 .cells)) x free
@@ -70,7 +71,7 @@ module _ (𝓜 : Machine) (s : Tables) where
   -- "Elsewhere it joins the EX naming that entry, or the lowest free cell becomes such an EX, idle. Value: cell."
   unfoldable pub deliverAway : ℕ → ℕ → ℕ → ℕ → ℕ → Result
   deliverAway k to o e w =
-      let c = arrives to o e in
+      let c = arrivalCell to o e in
       record { outcome = Done c; after = putMessage (putCell 𝓜 s to c (joined o e w (cell 𝓜 s to c))) k Empty }
 
   -- "Release: weight taken off, entry freed at 0. Value 0."

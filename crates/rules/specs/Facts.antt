@@ -1,6 +1,6 @@
 -- The facts of a sound state: what holds of each cell, entry and message, of any two, and of the sums. Everything else that document 01's
 -- six points say follows: ranges, since beyond its table everything is free; live entries, since a free one has weight 0. Assumes nothing.
-use Prim.Native.Nat.{ℕ, zero, suc, _*_, _<_, _≤_}
+use Prim.Native.Nat.{ℕ, _*_, _<_, _≤_}
 use mathlib.Core.Path.{_≡_}
 use mathlib.Core.Bool.{true, false}
 use mathlib.Core.Logic.{_≢_}
@@ -18,8 +18,8 @@ use Rattle.tables.specs.declared.Place.the-variants.{At}
 use Rattle.tables.specs.Machine.{Machine, Tables}
 use Rattle.tables.specs.Parts.{isFree, isEx, isReading, isAsking, exNames, namedBy, entryNames, entryWeight}
 use Rattle.tables.specs.Look.{cell, entry, endKind, booked, freeCells, message}
-use Rattle.rules.specs.Sound.{varValOrSafe, readsOf, asksOf, follow, held}
-use Rattle.rules.specs.Refusals.{entryEnd}
+use Rattle.rules.specs.Chains.{ahead, EndsIn}
+use Rattle.rules.specs.Sound.{varValOrSafe, readsOf, asksOf, held}
 use Rattle.rules.specs.Machines.{Sized}
 
 module _ (𝓜 : Machine) (s : Tables) where
@@ -46,17 +46,12 @@ module _ (𝓜 : Machine) (s : Tables) where
   MessageFact (Ask a c o e) = exNames o e (cell 𝓜 s a c) ≡ true
   MessageFact (Supply a c n) = Unit {0}
 
-  -- the place that n steps along ends and references lead to
-  unfoldable pub ahead : ℕ → Place → Place
-  ahead zero p = p
-  ahead (suc n) p = ahead n (follow 𝓜 s p)
-
   -- the entry of a Read is the n-th from the one that its EX names
   abbrev pub ReadAhead : ℕ → Message → Type 0
   ReadAhead n Empty = Unit {0}
   ReadAhead n (Reference to o e w) = Unit {0}
   ReadAhead n (Release o e w) = Unit {0}
-  ReadAhead n (Read r c o e) = ahead n (namedBy (cell 𝓜 s r c)) ≡ At o e
+  ReadAhead n (Read r c o e) = ahead 𝓜 s n (namedBy (cell 𝓜 s r c)) ≡ At o e
   ReadAhead n (Answer r c v) = Unit {0}
   ReadAhead n (Ask a c o e) = Unit {0}
   ReadAhead n (Supply a c w) = Unit {0}
@@ -84,19 +79,11 @@ module _ (𝓜 : Machine) (s : Tables) where
   abbrev pub ReadsWithin : Type 0
   ReadsWithin = (k : ℕ) → (n : ℕ) × (n < 𝓜 .workers * 𝓜 .entries) × ReadAhead n (message s k)
 
-  -- the chain from a place ends in VAL(v): so many steps lead to an entry whose cell has that end
-  pub record EndsIn (from : Place) (v : ℕ) : Type 0 where
-    pub steps : ℕ
-    pub owner : ℕ
-    pub number : ℕ
-    pub there : ahead steps from ≡ At owner number
-    pub value : entryEnd 𝓜 s owner (entry 𝓜 s owner number) ≡ Val v
-
   -- an EX that is known, and an Answer, holds the value at the end of its chain
   abbrev pub StatusFact : Place → Status → Type 0
   StatusFact from Idle = Unit {0}
   StatusFact from Reading = Unit {0}
-  StatusFact from (Known v) = EndsIn from v
+  StatusFact from (Known v) = EndsIn 𝓜 s from v
 
   abbrev pub KnownFact : Kind → Type 0
   KnownFact Free = Unit {0}
@@ -110,6 +97,6 @@ module _ (𝓜 : Machine) (s : Tables) where
   AnswerFact (Reference to o e n) = Unit {0}
   AnswerFact (Release o e n) = Unit {0}
   AnswerFact (Read r c o e) = Unit {0}
-  AnswerFact (Answer r c v) = EndsIn (namedBy (cell 𝓜 s r c)) v
+  AnswerFact (Answer r c v) = EndsIn 𝓜 s (namedBy (cell 𝓜 s r c)) v
   AnswerFact (Ask a c o e) = Unit {0}
   AnswerFact (Supply a c n) = Unit {0}

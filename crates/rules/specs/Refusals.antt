@@ -6,8 +6,6 @@ use lib.Dec.{ltb, leb, eqb}
 use Rattle.tables.specs.declared.Status.{Status}
 use Rattle.tables.specs.declared.Status.the-variants.{Idle, Reading, Known}
 use Rattle.tables.specs.declared.Kind.{Kind}
-use Rattle.tables.specs.declared.Holding.{Holding}
-use Rattle.tables.specs.declared.Holding.the-variants.{Unused, Live}
 use Rattle.tables.specs.declared.Message.{Message}
 use Rattle.tables.specs.declared.Message.the-variants.{Empty, Reference, Release, Read, Answer, Ask, Supply}
 use Rattle.tables.specs.declared.Refusal.the-variants.{WorkerCount, NotSound, NoWorker, ToItself, NoCell, WrongKind, Busy, Unsafe, LastWeight, OverCeiling, NoEntry, NoRoom, NoSlot, NoMessage, NotReady}
@@ -15,6 +13,7 @@ use Rattle.tables.specs.Machine.{Machine, Tables}
 use Rattle.tables.specs.Parts.{onEx, isFree, isVar, isEx, isAsking, exWeight, entryWeight, isEmpty}
 use Rattle.tables.specs.Look.{cell, entry, end, endKind, safe, entryOf, exported, busy, lowestFreeEntry, lowestEmptySlot, freeCells, booked, message}
 use Rattle.rules.specs.Answers.{Check, _when_}
+use Rattle.rules.specs.Chains.{entryEnd}
 use Rattle.rules.specs.Sound.{sound}
 
 -- 1: "P is 0 or above 8"
@@ -87,17 +86,12 @@ module _ (𝓜 : Machine) (s : Tables) where
   abbrev pub noMessage : ℕ → Check
   noMessage k = NoMessage when isEmpty (message s k)
 
-  -- the end of the cell that a live entry of worker o names; nothing for a free entry
-  abbrev pub entryEnd : ℕ → Holding → Kind
-  entryEnd o Unused = Rattle.tables.specs.declared.Kind.the-variants.Free
-  entryEnd o (Live c n t) = endKind 𝓜 s o c
-
   -- "A read is ready unless the end of its entry's cell is a VAR; all other messages are ready."
   unfoldable pub ready : Message → Bool
   ready Empty = true
   ready (Reference to o e n) = true
   ready (Release o e n) = true
-  ready (Read r c o e) = not (isVar (entryEnd o (entry 𝓜 s o e)))
+  ready (Read r c o e) = not (isVar (entryEnd 𝓜 s o (entry 𝓜 s o e)))
   ready (Answer r c n) = true
   ready (Ask a c o e) = true
   ready (Supply a c n) = true

@@ -11,10 +11,10 @@ use Rattle.tables.specs.declared.Holding.the-variants.{Unused, Live}
 use Rattle.tables.specs.declared.Message.{Message}
 use Rattle.tables.specs.declared.Message.the-variants.{Empty, Reference, Release, Read, Answer, Ask, Supply}
 use Rattle.tables.specs.declared.Place.{Place}
-use Rattle.tables.specs.declared.Place.the-variants.{Nowhere, At}
 use Rattle.tables.specs.Machine.{Machine, Tables}
 use Rattle.tables.specs.Parts.{onEx, isFree, isVar, isVal, isEx, readingOf, isReading, isAsking, exNames, namedBy, isAt, isUnused, isLive, entryNames}
 use Rattle.tables.specs.Look.{cell, entry, endKind, safe, booked, freeCells}
+use Rattle.rules.specs.Chains.{follow}
 
 -- a Read or an Answer for the cell c of worker w
 abbrev pub readsFor : ℕ → ℕ → Message → Bool
@@ -140,19 +140,9 @@ module _ (𝓜 : Machine) (s : Tables) where
   cellAwaited w c k =
       onEx true (λ o e n st a. (not (readingOf st) || eqb (readsOf w c) 1) && (not a || eqb (asksOf w c) 1)) k
 
-  -- the reference that the end of an entry's cell is
-  abbrev pub through : ℕ → Holding → Place
-  through o Unused = Nowhere
-  through o (Live c n t) = namedBy (endKind 𝓜 s o c)
-
-  -- one step along ends and references
-  unfoldable pub follow : Place → Place
-  follow Nowhere = Nowhere
-  follow (At o e) = through o (entry 𝓜 s o e)
-
   -- the entry e of worker o is this place, or one reached from there: in as many places as there are entries
   unfoldable pub reached : Place → ℕ → ℕ → Bool
-  reached from o e = walkMeets (isAt o e) follow (𝓜 .workers * 𝓜 .entries) from
+  reached from o e = walkMeets (isAt o e) (follow 𝓜 s) (𝓜 .workers * 𝓜 .entries) from
 
   abbrev pub messageHasIts : Message → Bool
   messageHasIts Empty = true

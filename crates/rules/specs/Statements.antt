@@ -1,36 +1,48 @@
--- Demand 3, sentence by sentence, as statements about the rules of a machine. Nothing else is on this page; the proofs are in proofs/.
+-- Demand 3, sentence by sentence, and what the whole is for, as statements about the rules of a machine. Nothing else is on this page; the
+-- proofs are in proofs/. The order's own words stand in quotation marks.
 --
--- "After any sequence of calls from an accepted start" is `Reached` of the rules: every accepted start, every call that is no start, refused
--- ones included, with any numbers. "With deliveries alone, in any order" is a list of slot numbers, refused ones skipped (`drained`,
--- `successes`).
-use Prim.Native.Nat.{ℕ, _≤_, _<_}
+-- "Take any sequence of calls, refused ones included, from an accepted start and with no second start in it" is `Reached` of the rules: every
+-- accepted start, every call that is no start, with any numbers. "Then let only deliveries follow, in any order" is a list of slot numbers,
+-- refused ones skipped (`drained`, `successes`).
+use Prim.Native.Nat.{ℕ, zero, suc, _≤_, _<_}
 use mathlib.Core.Path.{_≡_}
 use mathlib.Core.Bool.{Bool, true, false, _&&_, _||_, not}
 use mathlib.Core.List.{List, [], _∷_}
+use mathlib.Core.Logic.{_⊎_}
 use lib.Dec.{eqb}
 use Rattle.tables.specs.declared.Status.the-variants.{Reading, Known}
-use Rattle.tables.specs.declared.Kind.the-variants.{Ex}
+use Rattle.tables.specs.declared.Kind.the-variants.{Var, Val, Ref, Ex}
 use Rattle.tables.specs.declared.Message.{Message}
 use Rattle.tables.specs.declared.Message.the-variants.{Empty, Reference, Release, Read, Answer, Ask, Supply}
 use Rattle.tables.specs.declared.Place.the-variants.{At}
 use Rattle.tables.specs.declared.Call.{Call}
 use Rattle.tables.specs.Machine.{Machine, Tables}
-use Rattle.tables.specs.Parts.{isVar, isVal, isLive, entryWeight, isEmpty}
+use Rattle.tables.specs.Parts.{isFree, isVar, isVal, exNames, isLive, isTainted, entryNames, cellOf, entryWeight, isEmpty}
 use Rattle.tables.specs.Look.{cell, entry, liveEntries, message}
 use Rattle.rules.specs.Answers.{succeeds}
 use Rattle.rules.specs.Sound.{held, sound}
-use Rattle.rules.specs.Refusals.{entryEnd, ready}
+use Rattle.rules.specs.Chains.{entryEnd, ahead, EndsIn, LeadsTo}
+use Rattle.rules.specs.Refusals.{ready}
 use Rattle.rules.specs.Calls.{start, B}
-use Rattle.rules.specs.Step.{isStart, run, delivers, drained, successes, Reached}
-use Rattle.rules.specs.Facts.{ahead, EndsIn}
+use Rattle.rules.specs.Step.{isStart, step, run, delivers, drained, successes, Reached}
 
 -- a list of calls with no start in it
 abbrev pub noStart : List Call → Bool
 noStart [] = true
 noStart (q ∷ qs) = not (isStart q) && noStart qs
 
+-- a message names the entry e of worker o; an Answer and a Supply name an EX
+abbrev pub messageNames : ℕ → ℕ → Message → Bool
+messageNames o e Empty = false
+messageNames o e (Reference to owner number n) = eqb owner o && eqb number e
+messageNames o e (Release owner number n) = eqb owner o && eqb number e
+messageNames o e (Read r c owner number) = eqb owner o && eqb number e
+messageNames o e (Answer r c v) = false
+messageNames o e (Ask a c owner number) = eqb owner o && eqb number e
+messageNames o e (Supply a c n) = false
+
 module _ (𝓜 : Machine) where
-  -- Every list of calls with no start in it leads from an accepted start to a reached state.
+  -- "Take any sequence of calls, refused ones included, from an accepted start and with no second start in it": it leads to a reached state.
   abbrev pub EverySequence : Type 0
   EverySequence =
       (p : ℕ) (qs : List Call) → succeeds (start 𝓜 p .outcome) ≡ true → noStart qs ≡ true → Reached 𝓜 (run 𝓜 (start 𝓜 p .after) qs)
@@ -39,31 +51,29 @@ module _ (𝓜 : Machine) where
   abbrev pub StaysSound : Type 0
   StaysSound = (s : Tables) → Reached 𝓜 s → sound 𝓜 s ≡ true
 
-  -- "each live entry's weight is what references and messages hold on it": every entry's, 0 where it is free
-  abbrev pub Weights : Type 0
-  Weights = (s : Tables) → Reached 𝓜 s → (w e : ℕ) → entryWeight (entry 𝓜 s w e) ≡ held 𝓜 s w e
+  -- "Each live entry's weight equals the weights held on it by references and messages": every entry's, 0 where it is free
+  abbrev pub WeightIsHeld : Type 0
+  WeightIsHeld = (s : Tables) → Reached 𝓜 s → (w e : ℕ) → entryWeight (entry 𝓜 s w e) ≡ held 𝓜 s w e
 
-  -- "and it is freed exactly when that reaches nothing": it is live exactly while what is held on it is not 0
+  -- ", and it is freed exactly when that reaches nothing.": it is live exactly while what is held on it is not 0
   abbrev pub FreedAtNothing : Type 0
   FreedAtNothing = (s : Tables) → Reached 𝓜 s → (w e : ℕ) → isLive (entry 𝓜 s w e) ≡ not (eqb (held 𝓜 s w e) 0)
 
-  -- No loops: from a live entry, following ends and references comes to a VAR or a VAL in fewer steps than there are live entries.
+  -- No loops: from a live entry, following ends and references comes to a context, a VAR or a VAL, in fewer steps than there are live entries.
   pub record ComesToAnEnd (s : Tables) (o e : ℕ) : Type 0 where
-    pub steps : ℕ
-    pub owner : ℕ
+    pub worker : ℕ
     pub number : ℕ
-    pub few : steps < liveEntries s
-    pub there : ahead 𝓜 s steps (At o e) ≡ At owner number
-    pub var-or-val : (isVar (entryEnd 𝓜 s owner (entry 𝓜 s owner number)) || isVal (entryEnd 𝓜 s owner (entry 𝓜 s owner number))) ≡ true
+    pub leads : LeadsTo 𝓜 s (At o e) worker number
+    pub few : leads .steps < liveEntries s
 
   abbrev pub NoLoops : Type 0
   NoLoops = (s : Tables) → Reached 𝓜 s → (o e : ℕ) → isLive (entry 𝓜 s o e) ≡ true → ComesToAnEnd s o e
 
-  -- "Then, with deliveries alone, in any order: at most B succeed"
+  -- "Then let only deliveries follow, in any order. At most B of them succeed, B being document 01's sum over the messages"
   abbrev pub AtMostB : Type 0
   AtMostB = (s : Tables) → Reached 𝓜 s → (ks : List ℕ) → successes 𝓜 s ks ≤ B 𝓜 s
 
-  -- "a ready message's delivery succeeds": in every state on the way, a delivery succeeds exactly where the slot holds a ready message
+  -- "while a message is ready its delivery succeeds": in every state on the way, and exactly where the slot holds a ready message
   abbrev pub holdsReady : Tables → ℕ → Bool
   holdsReady s k = not (isEmpty (message s k)) && ready 𝓜 s (message s k)
 
@@ -71,10 +81,23 @@ module _ (𝓜 : Machine) where
   ReadySucceeds =
       (s : Tables) → Reached 𝓜 s → (ks : List ℕ) (k : ℕ) → delivers 𝓜 (drained 𝓜 s ks) k ≡ holdsReady (drained 𝓜 s ks) k
 
-  -- "and at rest only reads of unbound variables remain": where no slot holds a ready message, every message is a Read, and the end of its
-  -- entry's cell a VAR
+  -- "when none is ready, only reads of unbound variables remain": every message is then a Read, and the end of its entry's cell a VAR
   abbrev pub AtRest : Tables → Type 0
   AtRest s = (k : ℕ) → holdsReady s k ≡ false
+
+  -- And rest comes, whichever ready message is taken each time: where the slots of a sequence are delivered one after the other, and each
+  -- holds a ready message so long as any is ready, none is ready after at most B of them.
+  unfoldable pub slotsTaken : (ℕ → ℕ) → ℕ → List ℕ
+  slotsTaken slot zero = []
+  slotsTaken slot (suc n) = slot 0 ∷ slotsTaken (λ i. slot (suc i)) n
+
+  abbrev pub TakesReady : Tables → (ℕ → ℕ) → Type 0
+  TakesReady s slot =
+      (n : ℕ) → AtRest (drained 𝓜 s (slotsTaken slot n)) ⊎ (holdsReady (drained 𝓜 s (slotsTaken slot n)) (slot n) ≡ true)
+
+  abbrev pub RestIsReached : Type 0
+  RestIsReached =
+      (s : Tables) → Reached 𝓜 s → (slot : ℕ → ℕ) → TakesReady s slot → (n : ℕ) × (n ≤ B 𝓜 s) × AtRest (drained 𝓜 s (slotsTaken slot n))
 
   abbrev pub readOfUnbound : Tables → Message → Bool
   readOfUnbound s Empty = true
@@ -89,8 +112,9 @@ module _ (𝓜 : Machine) where
   OnlyUnboundReads =
       (s : Tables) → Reached 𝓜 s → (ks : List ℕ) → AtRest (drained 𝓜 s ks) → (k : ℕ) → readOfUnbound (drained 𝓜 s ks) (message (drained 𝓜 s ks) k) ≡ true
 
-  -- "every read on a chain that ends in a value having brought it": an EX that is reading in s, whose chain ends in VAL(v), is known with v in
-  -- every state at rest that deliveries alone lead to, whether its message was a Read anywhere on the chain or already an Answer
+  -- "and every read that was pending on a chain ending in a value has brought that value": an EX that is reading in s, whose chain ends in
+  -- VAL(v), is known with v in every state at rest that deliveries alone lead to, whether its message was a Read anywhere on the chain or
+  -- already an Answer
   pub record KnownWith (s : Tables) (w c o e v : ℕ) : Type 0 where
     pub weight : ℕ
     pub asking : Bool
@@ -100,14 +124,46 @@ module _ (𝓜 : Machine) where
   Brought =
       (s : Tables) → Reached 𝓜 s → (w c o e n v : ℕ) (a : Bool) → cell 𝓜 s w c ≡ Ex o e n Reading a → EndsIn 𝓜 s (At o e) v → (ks : List ℕ) → AtRest (drained 𝓜 s ks) → KnownWith (drained 𝓜 s ks) w c o e v
 
-  -- Demand 3, whole.
+  -- ---- A reference keeps its context
+
+  -- Whatever refers to an entry, an EX or a message, refers to a live one,
+  abbrev pub RefersToLive : Type 0
+  RefersToLive =
+      (s : Tables) → Reached 𝓜 s → (o e : ℕ) → ((w c : ℕ) → exNames o e (cell 𝓜 s w c) ≡ true → isLive (entry 𝓜 s o e) ≡ true) × ((k : ℕ) → messageNames o e (message s k) ≡ true → isLive (entry 𝓜 s o e) ≡ true)
+
+  -- and by `NoLoops` that entry leads to a context. From one state to the next the context is what it was, or a variable that has been given
+  -- a value, or bound.
+  pub data Continues (s s′ : Tables) (w c : ℕ) : Type 0 where
+    as-it-was : cell 𝓜 s′ w c ≡ cell 𝓜 s w c → Continues s s′ w c
+    given-a-value : (v : ℕ) → cell 𝓜 s w c ≡ Var → cell 𝓜 s′ w c ≡ Val v → Continues s s′ w c
+    bound-to : (d : ℕ) → cell 𝓜 s w c ≡ Var → cell 𝓜 s′ w c ≡ Ref d → Continues s s′ w c
+
+  -- While an entry is live from one state to the next it keeps its cell and its taint, that cell is not freed, and the entry leads by the same
+  -- steps to the same context.
+  pub record KeepsContext (s s′ : Tables) (o e : ℕ) : Type 0 where
+    pub same-cell : cellOf (entry 𝓜 s′ o e) ≡ cellOf (entry 𝓜 s o e)
+    pub same-taint : isTainted (entry 𝓜 s′ o e) ≡ isTainted (entry 𝓜 s o e)
+    pub not-freed : isFree (cell 𝓜 s′ o (cellOf (entry 𝓜 s o e))) ≡ false
+    pub same-steps : (w c : ℕ) (l : LeadsTo 𝓜 s (At o e) w c) → (ahead 𝓜 s′ (l .steps) (At o e) ≡ At w (l .number)) × (entryNames c (entry 𝓜 s′ w (l .number)) ≡ true)
+    pub same-context : (w c : ℕ) → LeadsTo 𝓜 s (At o e) w c → Continues s s′ w c
+
+  -- So no number that something still refers to is ever given out again: between two uses of it lies a state in which it is free, and to a
+  -- free one nothing refers.
+  abbrev pub ReferenceKeepsContext : Type 0
+  ReferenceKeepsContext =
+      (s : Tables) → Reached 𝓜 s → (q : Call) → isStart q ≡ false → (o e : ℕ) → isLive (entry 𝓜 s o e) ≡ true → isLive (entry 𝓜 (step 𝓜 s q .after) o e) ≡ true → KeepsContext s (step 𝓜 s q .after) o e
+
+  -- Demand 3, whole, and that a reference keeps its context.
   pub record Demand3 : Type 0 where
     pub every-sequence : EverySequence
     pub stays-sound : StaysSound
-    pub weights : Weights
+    pub weights : WeightIsHeld
     pub freed-at-nothing : FreedAtNothing
     pub no-loops : NoLoops
     pub at-most-b : AtMostB
     pub ready-succeeds : ReadySucceeds
     pub only-unbound-reads : OnlyUnboundReads
+    pub rest-is-reached : RestIsReached
     pub brought : Brought
+    pub refers-to-live : RefersToLive
+    pub reference-keeps-context : ReferenceKeepsContext

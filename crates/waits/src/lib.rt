@@ -235,9 +235,9 @@ fn messages_have_theirs(s: State) -> bool
         let at = named_entry(m);
         let h = places::place_index(at);
         let z = s.entries[h];
-        let held = z.holding;
+        let holding = z.holding;
         let k = places::cell_seen(w, c, there);
-        let entry = places::place_seen(at, held);
+        let entry = places::place_seen(at, holding);
         good = both(good, message_has_its(t, m, k, entry));
     }
     good

@@ -1,2 +1,2 @@
 -- Point 5 by what a loop has read.
-pub mod Weights
+pub mod Held

@@ -1,7 +1,7 @@
 -- `deliver` meets its contract: its refusals in order, and what it does. Assumes nothing.
 use mathlib.Core.Path.{refl}
 use Rattle.tables.specs.Machine.{eight, tables}
-use Rattle.changes.specs.Weights.{message-weight}
+use Rattle.changes.specs.BelowCeiling.{message-weight}
 use Rattle.rules.specs.Deliver.{deliver}
 use Rattle.calls.specs.Verdicts.{along, decides}
 use Rattle.calls.proofs.deliver.Statement.{statement}

@@ -7,7 +7,7 @@ use lib.ListN.{length}
 use Rattle.numbers.specs.ListLaws.{total-below}
 use Rattle.tables.specs.declared.Message.the-variants.{Empty}
 use Rattle.tables.specs.Look.{messageAt}
-use Rattle.passing.specs.Summing.{Summing, add-start, add-step, add-end}
+use Rattle.loops.specs.Summing.{Summing, add-start, add-step, add-end}
 use Rattle.rules.specs.Calls.{costs, B}
 use Rattle.changes.specs.Costs.{costs-small, sum-small}
 use Rattle.changes.proofs.all_costs.Statement.{statement}

@@ -1,6 +1,6 @@
 -- `changes::by_location` meets its contract: in a sound state the entry gains what the rule says. Assumes nothing.
 use Rattle.rules.specs.Calls.{byLocation}
-use Rattle.changes.specs.Weights.{entry-weight}
+use Rattle.changes.specs.BelowCeiling.{entry-weight}
 use Rattle.changes.proofs.by_location.Statement.{statement}
 use Rattle.changes.proofs.by_location.Tie as tie
 

@@ -1,7 +1,7 @@
 -- `lookups::free_cells` meets its contract: a count over a worker's cells. Assumes nothing.
 use Prim.Native.Nat.{_+_, _*_, _-_, _<_}
 use native.Mathlib.Omega.{arith}
-use Rattle.numbers.specs.Loops.{Counting, count-end, loops}
+use Rattle.loops.specs.Searching.{Counting, count-end, loops}
 use Rattle.tables.specs.Machine.{eight}
 use Rattle.tables.specs.Parts.{isFree}
 use Rattle.tables.specs.Look.{kindAt, freeCells}

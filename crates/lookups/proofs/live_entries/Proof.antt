@@ -3,7 +3,7 @@ use Prim.Native.Nat.{_-_}
 use native.Mathlib.Omega.{arith}
 use mathlib.Core.Path.{_≡_}
 use lib.ListN.{length}
-use Rattle.numbers.specs.Loops.{Counting, count-end, loops}
+use Rattle.loops.specs.Searching.{Counting, count-end, loops}
 use Rattle.tables.specs.Parts.{isLive}
 use Rattle.tables.specs.Look.{holdingAt, liveEntries}
 use Rattle.lookups.specs.Laws.{count-total, bit-small}

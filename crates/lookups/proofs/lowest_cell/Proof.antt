@@ -2,7 +2,7 @@
 use Prim.Native.Nat.{_+_, _*_, _-_, _<_}
 use borrow.Author.Needs.{needs}
 use Rattle.numbers.specs.Below.{lowest}
-use Rattle.numbers.specs.Loops.{Seeking, seek-start, loops}
+use Rattle.loops.specs.Searching.{Seeking, seek-start, loops}
 use Rattle.tables.specs.Machine.{eight}
 use Rattle.tables.specs.Look.{kindAt}
 use Rattle.lookups.specs.Sought.{isSought}

@@ -1,7 +1,7 @@
 -- `lookups::lowest_empty_slot` meets its contract: a search over the slots. Assumes nothing.
 use Prim.Native.Nat.{_-_}
 use Rattle.numbers.specs.Below.{lowest}
-use Rattle.numbers.specs.Loops.{Seeking, loops}
+use Rattle.loops.specs.Searching.{Seeking, loops}
 use Rattle.tables.specs.Parts.{isEmpty}
 use Rattle.tables.specs.Look.{messageAt, lowestEmptySlot}
 use Rattle.lookups.proofs.lowest_empty_slot.Statement.{statement}

@@ -4,22 +4,22 @@ use native.Mathlib.Omega.{arith}
 use mathlib.Core.Path.{_≡_}
 use borrow.Author.Needs.{needs}
 use lib.ListN.{length, length-map}
-use Rattle.numbers.specs.Loops.{Counting, count-start, count-step, count-end}
+use Rattle.loops.specs.Searching.{Counting, count-start, count-step, count-end}
 use Rattle.tables.specs.Machine.{eight, tables}
 use Rattle.tables.specs.Look.{kindAt}
 use Rattle.lookups.specs.Laws.{bit-small}
 use Rattle.rules.specs.Sound.{cellNames, point2}
-use Rattle.passing.specs.Passing.{Passing, pass-start, pass-over, pass-step, pass-each}
+use Rattle.loops.specs.Passing.{Passing, pass-start, pass-over, pass-step, pass-each}
 use Rattle.places.specs.Places.{namesPlace, cell-read, entry-read}
 use Rattle.names.specs.Names.{nothing-named, cell-names-by}
 use Rattle.names.proofs.point_2.Statement.{statement}
 use Rattle.names.proofs.point_2.Tie as tie
 
 abbrev Inv-loop2 : tie.InvT-loop2
-Inv-loop2 s good i k w d j there at h held twins₀ c₀ twins c = Counting (λ m. namesPlace at (kindAt (s .cells) (i / 32 * 32 + m))) 32 c twins
+Inv-loop2 s good i k w d j there at h holding twins₀ c₀ twins c = Counting (λ m. namesPlace at (kindAt (s .cells) (i / 32 * 32 + m))) 32 c twins
 
 abbrev μ-loop2 : tie.MeasureT-loop2
-μ-loop2 s good i k w d j there at h held twins₀ c₀ twins c = 32 - c
+μ-loop2 s good i k w d j there at h holding twins₀ c₀ twins c = 32 - c
 
 abbrev Inv-loop : tie.InvT-loop
 Inv-loop s good₀ i₀ good i = Passing (λ j. cellNames eight (tables s) (j / 32) (j % 32) (kindAt (s .cells) j)) 256 i good

@@ -4,23 +4,23 @@ use native.Mathlib.Omega.{arith}
 use mathlib.Core.Path.{_≡_}
 use borrow.Author.Needs.{needs}
 use lib.ListN.{length, length-map}
-use Rattle.numbers.specs.Loops.{Counting, count-start, count-step, count-end}
+use Rattle.loops.specs.Searching.{Counting, count-start, count-step, count-end}
 use Rattle.tables.specs.Machine.{eight, tables}
 use Rattle.tables.specs.Parts.{entryNames}
 use Rattle.tables.specs.Look.{holdingAt}
 use Rattle.lookups.specs.Laws.{bit-small}
 use Rattle.rules.specs.Sound.{entryNamesCell, point3}
-use Rattle.passing.specs.Passing.{Passing, pass-start, pass-over, pass-step, pass-each}
+use Rattle.loops.specs.Passing.{Passing, pass-start, pass-over, pass-step, pass-each}
 use Rattle.places.specs.Places.{cell-read, entry-read}
 use Rattle.names.specs.Names.{unused-names, entry-names-by}
 use Rattle.names.proofs.point_3.Statement.{statement}
 use Rattle.names.proofs.point_3.Tie as tie
 
 abbrev Inv-loop2 : tie.InvT-loop2
-Inv-loop2 s good i holding w c j k d g end at h held twins₀ e₀ twins e = Counting (λ m. entryNames c (holdingAt (s .entries) (i / 16 * 16 + m))) 16 e twins
+Inv-loop2 s good i holding w c j k d g end at h beyond twins₀ e₀ twins e = Counting (λ m. entryNames c (holdingAt (s .entries) (i / 16 * 16 + m))) 16 e twins
 
 abbrev μ-loop2 : tie.MeasureT-loop2
-μ-loop2 s good i holding w c j k d g end at h held twins₀ e₀ twins e = 16 - e
+μ-loop2 s good i holding w c j k d g end at h beyond twins₀ e₀ twins e = 16 - e
 
 abbrev Inv-loop : tie.InvT-loop
 Inv-loop s good₀ i₀ good i = Passing (λ j. entryNamesCell eight (tables s) (j / 16) (j % 16) (holdingAt (s .entries) j)) 128 i good

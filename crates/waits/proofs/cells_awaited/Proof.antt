@@ -4,12 +4,12 @@ use native.Mathlib.Omega.{arith}
 use mathlib.Core.Path.{_≡_}
 use borrow.Author.Needs.{needs}
 use lib.ListN.{length, length-map}
-use Rattle.numbers.specs.Loops.{Counting, count-start, count-step, count-end}
+use Rattle.loops.specs.Searching.{Counting, count-start, count-step, count-end}
 use Rattle.tables.specs.Machine.{eight, tables}
 use Rattle.tables.specs.Look.{kindAt, messageAt}
 use Rattle.lookups.specs.Laws.{bit-small}
 use Rattle.rules.specs.Sound.{readsFor, asksFor, cellAwaited}
-use Rattle.passing.specs.Passing.{Passing, pass-start, pass-over, pass-step, pass-each}
+use Rattle.loops.specs.Passing.{Passing, pass-start, pass-over, pass-step, pass-each}
 use Rattle.waits.specs.Waits.{cell-awaited-by, nothing-awaited}
 use Rattle.waits.proofs.cells_awaited.Statement.{statement}
 use Rattle.waits.proofs.cells_awaited.Tie as tie

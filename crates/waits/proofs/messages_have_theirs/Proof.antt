@@ -6,7 +6,7 @@ use lib.ListN.{length, length-map}
 use Rattle.tables.specs.Machine.{eight, tables}
 use Rattle.tables.specs.Look.{messageAt}
 use Rattle.rules.specs.Sound.{messageHasIts}
-use Rattle.passing.specs.Passing.{Passing, pass-start, pass-over, pass-step, pass-each}
+use Rattle.loops.specs.Passing.{Passing, pass-start, pass-over, pass-step, pass-each}
 use Rattle.places.specs.Places.{cell-read, entry-read}
 use Rattle.waits.specs.Waits.{message-has-by, empty-has}
 use Rattle.waits.proofs.messages_have_theirs.Statement.{statement}

@@ -4,7 +4,7 @@ use borrow.Author.Needs.{needs}
 use Rattle.numbers.specs.Below.{walkMeets}
 use Rattle.tables.specs.Machine.{eight}
 use Rattle.tables.specs.Parts.{isAt}
-use Rattle.passing.specs.Walking.{Walking, walk-start, walk-met, walk-on, walk-end}
+use Rattle.loops.specs.Walking.{Walking, walk-start, walk-met, walk-on, walk-end}
 use Rattle.waits.specs.Steps.{stepBy}
 use Rattle.waits.proofs.reached.Statement.{statement}
 use Rattle.waits.proofs.reached.Tie as tie

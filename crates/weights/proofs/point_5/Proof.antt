@@ -7,10 +7,10 @@ use lib.ListN.{length, length-map}
 use Rattle.tables.specs.Machine.{eight, tables}
 use Rattle.tables.specs.Look.{kindAt, holdingAt, messageAt}
 use Rattle.rules.specs.Sound.{cellHolds, messageHolds, entryWeighs, point5}
-use Rattle.passing.specs.Passing.{Passing, pass-start, pass-over, pass-step, pass-each}
-use Rattle.passing.specs.Summing.{Summing, add-start, add-step, add-over, add-end}
+use Rattle.loops.specs.Passing.{Passing, pass-start, pass-over, pass-step, pass-each}
+use Rattle.loops.specs.Summing.{Summing, add-start, add-step, add-over, add-end}
 use Rattle.places.specs.Places.{cell-read}
-use Rattle.weights.specs.Weights.{message-holds-by, nothing-held, unused-weighs, entry-weighs-by}
+use Rattle.weights.specs.Held.{message-holds-by, nothing-held, unused-weighs, entry-weighs-by}
 use Rattle.weights.proofs.point_5.Statement.{statement}
 use Rattle.weights.proofs.point_5.Tie as tie
 

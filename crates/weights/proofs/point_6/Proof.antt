@@ -5,13 +5,13 @@ use mathlib.Core.Path.{_≡_, ap, ap₂, _∙_}
 use lib.Dec.{leb}
 use borrow.Author.Needs.{needs}
 use lib.ListN.{length, length-map}
-use Rattle.numbers.specs.Loops.{Counting, count-start, count-step, count-end}
+use Rattle.loops.specs.Searching.{Counting, count-start, count-step, count-end}
 use Rattle.tables.specs.Machine.{eight, tables}
 use Rattle.tables.specs.Parts.{isFree, goesTo}
 use Rattle.tables.specs.Look.{cell, messageAt, booked, freeCells}
 use Rattle.lookups.specs.Laws.{bit-small, count-total}
 use Rattle.rules.specs.Sound.{roomForBooked, point6}
-use Rattle.passing.specs.Passing.{Passing, pass-start, pass-step, pass-end}
+use Rattle.loops.specs.Passing.{Passing, pass-start, pass-step, pass-end}
 use Rattle.places.specs.Places.{cell-read}
 use Rattle.weights.proofs.point_6.Statement.{statement}
 use Rattle.weights.proofs.point_6.Tie as tie

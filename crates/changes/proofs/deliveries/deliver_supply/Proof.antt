@@ -1,6 +1,6 @@
 -- `changes::deliveries::deliver_supply` meets its contract: in a sound state the weights are added. Assumes nothing.
 use Rattle.rules.specs.Deliver.{deliverSupply}
-use Rattle.changes.specs.Weights.{cell-weight}
+use Rattle.changes.specs.BelowCeiling.{cell-weight}
 use Rattle.changes.proofs.deliveries.deliver_supply.Statement.{statement}
 use Rattle.changes.proofs.deliveries.deliver_supply.Tie as tie
 

@@ -1,12 +1,12 @@
--- Loop invariants as records, so that a law finds its test, bound and place by itself, and the set of laws that closes a loop's needs.
--- Assumes nothing.
+-- A loop that searches, and one that counts: their invariants as records, so that a law finds its test, bound and place by itself, and the
+-- set of laws that closes such a loop's needs. Assumes nothing.
 use Prim.Native.Nat.{ℕ, _+_, _-_, _≤_, _<_}
 use native.Mathlib.Omega.{arith}
 use mathlib.Core.Path.{_≡_, sym, ap, _∙_}
 use mathlib.Core.Bool.{Bool, true, false}
 use borrow.Author.Needs.{needs}
 use Rattle.numbers.specs.Below.{bit, countBelow, lowestFrom, lowest}
 use Rattle.numbers.specs.BelowLaws.{lowest-next, lowest-hit, lowest-end, lowest-start, sum-zero, sum-next}
 
 -- A search below n that has passed the numbers below i, and is to return r.
 pub record Seeking (p : ℕ → Bool) (n i r : ℕ) : Type 0 where

@@ -1,2 +1,2 @@
 -- What the exported function answers.
-pub mod Export
+pub mod Answer

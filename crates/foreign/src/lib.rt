@@ -1,7 +1,7 @@
 // The text program's work for Rust and C to call.
 ghost use mathlib.Core.Path.{_≡_};
 ghost use Rattle.text.specs.Room.{written};
-ghost use Rattle.export.specs.Export.{bytesWritten};
+ghost use Rattle.foreign.specs.Answer.{bytesWritten};
 use text::Ran;
 
 // Runs input from the closed state into out, and says how many bytes of answers stand at its front; or the largest number, with out as it was,

@@ -6,9 +6,9 @@ use Rattle.text.specs.declared.Ran.the-variants.{NoRoom, Wrote}
 use Rattle.text.specs.Room.{ran}
 
 -- the bytes written, or the largest number where there is no room
-abbrev pub numberOf : Ran → ℕ
-numberOf NoRoom = 2 ^ 64 - 1
-numberOf (Wrote n) = n
+abbrev pub bytesOf : Ran → ℕ
+bytesOf NoRoom = 2 ^ 64 - 1
+bytesOf (Wrote n) = n
 
 abbrev pub bytesWritten : List ℕ → List ℕ → ℕ
-bytesWritten input out = numberOf (ran input out)
+bytesWritten input out = bytesOf (ran input out)

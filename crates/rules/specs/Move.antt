@@ -16,11 +16,12 @@ use Rattle.tables.specs.declared.Place.the-variants.{At}
 use Rattle.tables.specs.Machine.{Machine, Tables}
 use Rattle.tables.specs.Parts.{onEx, isFree, isVar, isVal, isReading, isAsking, exNames, isLive, isTainted, entryNames, entryWeight, goesTo, cellOf}
 use Rattle.tables.specs.Look.{cell, entry, safe, exported, busy, booked, freeCells, message}
-use Rattle.rules.specs.Sound.{readsFor, asksFor, follow, cellHolds, messageHolds}
+use Rattle.rules.specs.Chains.{follow}
+use Rattle.rules.specs.Sound.{readsFor, asksFor, cellHolds, messageHolds}
 use Rattle.rules.specs.Facts.{CellFact, EntryFact, MessageFact, Facts, ReadAhead, Reads, KnownFact, AnswerFact}
 
 -- the cell c of worker w, the entry e of worker o and the slot i: what stood there, and what stands there then
-pub record Change : Type 0 where
+pub record Move : Type 0 where
   pub w : ℕ
   pub c : ℕ
   pub k₀ : Kind
@@ -33,7 +34,7 @@ pub record Change : Type 0 where
   pub m₀ : Message
   pub m : Message
 
-abbrev pub next : Machine → Tables → Change → Tables
+abbrev pub next : Machine → Tables → Move → Tables
 next 𝓜 s h =
     record {
       p = s .p;
@@ -43,11 +44,11 @@ next 𝓜 s h =
     }
 
 -- what others see of a cell: not an EX's weight and marks
-abbrev pub seen : Kind → Kind
-seen k = onEx k (λ o e n st a. Ex o e 0 Idle false) k
+abbrev pub shown : Kind → Kind
+shown k = onEx k (λ o e n st a. Ex o e 0 Idle false) k
 
 -- the change is of parts of the tables, and of what stands there
-pub record Placed (𝓜 : Machine) (s : Tables) (h : Change) : Type 0 where
+pub record Placed (𝓜 : Machine) (s : Tables) (h : Move) : Type 0 where
   pub w-in : h .w < 𝓜 .workers
   pub c-in : h .c < 𝓜 .cells
   pub o-in : h .o < 𝓜 .workers
@@ -62,14 +63,14 @@ pub data VarBecomes (𝓜 : Machine) (s : Tables) (w : ℕ) (k : Kind) : Type 0 
   stays : (isVar k || isVal k) ≡ true → VarBecomes 𝓜 s w k
   bound : (d : ℕ) → k ≡ Ref d → safe 𝓜 s w (cell 𝓜 s w d) ≡ true → VarBecomes 𝓜 s w k
 
-pub record Keeps (𝓜 : Machine) (s : Tables) (h : Change) : Type 0 where
+pub record Keeps (𝓜 : Machine) (s : Tables) (h : Move) : Type 0 where
   pub placed : Placed 𝓜 s h
   -- the new parts are as they should be
   pub cell-ok : (h .k ≡ h .k₀) ⊎ CellFact 𝓜 (next 𝓜 s h) (h .w) (h .k)
   pub entry-ok : (h .x ≡ h .x₀) ⊎ EntryFact 𝓜 (next 𝓜 s h) (h .o) (h .x)
   pub message-ok : (h .m ≡ h .m₀) ⊎ MessageFact 𝓜 (next 𝓜 s h) (h .m)
   -- a busy cell stays what others see of it, but for an exported VAR
-  pub busy-kept : busy 𝓜 s (h .w) (h .c) ≡ true → isVar (h .k₀) ≡ false → seen (h .k) ≡ seen (h .k₀)
+  pub busy-kept : busy 𝓜 s (h .w) (h .c) ≡ true → isVar (h .k₀) ≡ false → shown (h .k) ≡ shown (h .k₀)
   pub var-kept : exported 𝓜 s (h .w) (h .c) ≡ true → isVar (h .k₀) ≡ true → VarBecomes 𝓜 s (h .w) (h .k)
   -- a live entry that stays live keeps its cell and its taint
   pub entry-kept : isLive (h .x₀) ≡ true → isLive (h .x) ≡ true → (cellOf (h .x) ≡ cellOf (h .x₀)) × (isTainted (h .x) ≡ isTainted (h .x₀))
@@ -87,10 +88,15 @@ pub record Keeps (𝓜 : Machine) (s : Tables) (h : Change) : Type 0 where
 
 -- What a change must bring besides: the entry of a new Read is ahead of its EX's, and a new Answer, or an EX newly known, holds the value at
 -- the end of its chain.
-pub record Carries (𝓜 : Machine) (s : Tables) (h : Change) : Type 0 where
+pub record Carries (𝓜 : Machine) (s : Tables) (h : Move) : Type 0 where
   pub read-ok : (h .m ≡ h .m₀) ⊎ ((n : ℕ) × ReadAhead 𝓜 (next 𝓜 s h) n (h .m))
   pub answer-ok : (h .m ≡ h .m₀) ⊎ AnswerFact 𝓜 (next 𝓜 s h) (h .m)
   pub known-ok : (KnownFact 𝓜 s (h .k₀) → KnownFact 𝓜 s (h .k)) ⊎ KnownFact 𝓜 (next 𝓜 s h) (h .k)
+
+-- What a call makes of the tables: nothing, or one such move.
+pub data Makes (𝓜 : Machine) (s : Tables) : Tables → Type 0 where
+  nothing : Makes 𝓜 s s
+  moved : (h : Move) → Keeps 𝓜 s h → Carries 𝓜 s h → Makes 𝓜 s (next 𝓜 s h)
 
 -- A rank of the entries by which no chain goes round: at least the worker's number, that number for an untainted entry, and falling with
 -- each step.

@@ -1,1 +1,0 @@
-// No code: the laws of the soundness test's loops, in specs/.

@@ -1,0 +1,141 @@
+-- A reference keeps its context: what refers to an entry refers to a live one, and a move leaves what a live entry leads to. Assumes nothing.
+use Prim.Native.Nat.{ℕ, _≤_}
+use native.Mathlib.Omega.{arith}
+use mathlib.Core.Path.{_≡_, refl, sym, ap, ap₂, subst, _∙_}
+use mathlib.Core.Bool.{Bool, true, false, _&&_, _||_, cond}
+use lib.Dec.{eqb}
+use borrow.Author.Tests.{eq-eqb}
+use Rattle.numbers.specs.Tests.{absurd-bool}
+use Rattle.tables.specs.declared.Kind.{Kind}
+use Rattle.tables.specs.declared.Kind.the-variants.{Free, Var, Val, Ref, Ex}
+use Rattle.tables.specs.declared.Holding.{Holding}
+use Rattle.tables.specs.declared.Holding.the-variants.{Unused, Live}
+use Rattle.tables.specs.declared.Message.{Message}
+use Rattle.tables.specs.declared.Message.the-variants.{Empty, Reference, Release, Read, Answer, Ask, Supply}
+use Rattle.tables.specs.declared.Place.the-variants.{At}
+use Rattle.tables.specs.Machine.{Machine, Tables}
+use Rattle.tables.specs.Parts.{isFree, isVar, isVal, isEx, exNames, isLive, entryNames, cellOf}
+use Rattle.tables.specs.Look.{cell, entry, endKind, exported, message}
+use Rattle.rules.specs.Chains.{entryEnd, ahead, LeadsTo}
+use Rattle.rules.specs.Sound.{messageHolds}
+use Rattle.rules.specs.Facts.{CellFact, MessageFact, Facts, Reads}
+use Rattle.rules.specs.Move.{Move, next, shown, Keeps, Makes, nothing, moved}
+use Rattle.rules.specs.Statements.{messageNames, Continues, as-it-was, given-a-value, bound-to, KeepsContext}
+use Rattle.rules.proofs.Named.{the-live, the-entry-of, names-live-entry, both-eq, eq-both}
+use Rattle.rules.proofs.Busy.{exported-by}
+use Rattle.rules.proofs.Derived.{live-fact, held-live, sent-held, names-live, LivePlace, live-place, ahead-place, read-live}
+use Rattle.rules.proofs.Kept.{shown-plain, exported-shown, VarAfter, var-or-val, ref-to-safe, var-after, live-kept, end-self, end-ref, facts-kept}
+use Rattle.rules.proofs.Onward.{ahead-kept}
+
+module _ (𝓜 : Machine) (s : Tables) (F : Facts 𝓜 s) where
+  -- ---- the entry that a message names is live
+  -- a weight under way is held on its entry
+  sent-live : (k o e n : ℕ) (m : Message) → message s k ≡ m → 1 ≤ n → messageHolds 𝓜 s o e m ≡ cond (eqb o o && eqb e e) n 0 → isLive (entry 𝓜 s o e) ≡ true
+  sent-live k o e n m q some holds =
+      held-live 𝓜 s (F .weighed) o e
+      (omega (arith, sent-held 𝓜 s k o e n m q (holds ∙ ap (λ (t : Bool). cond t n 0) (eq-both o e))))
+
+  pub message-live : Reads 𝓜 s → (k o e : ℕ) → messageNames o e (message s k) ≡ true → isLive (entry 𝓜 s o e) ≡ true
+  message-live reads k o e h = go (message s k) refl h (F .messages k)
+    where
+      -- the worker and the number that it names are o and e
+      here : (a b : ℕ) → (eqb a o && eqb b e) ≡ true → isLive (entry 𝓜 s a b) ≡ true → isLive (entry 𝓜 s o e) ≡ true
+      here a b t l = let q = both-eq a o b e t in sym (ap isLive (ap₂ (entry 𝓜 s) (q .0) (q .1))) ∙ l
+
+      go : (m : Message) → message s k ≡ m → messageNames o e m ≡ true → MessageFact 𝓜 s m → isLive (entry 𝓜 s o e) ≡ true
+      go Empty q t f = absurd-bool t refl
+      go (Reference to a b n) q t f = here a b t (sent-live k a b n (Reference to a b n) q (f .1) refl)
+      go (Release a b n) q t f = here a b t (sent-live k a b n (Release a b n) q f refl)
+      go (Read r c a b) q t f = here a b t (read-live 𝓜 s F reads k r c a b q)
+      go (Answer r c v) q t f = absurd-bool t refl
+      go (Ask x c a b) q t f = here a b t (names-live 𝓜 s F x c a b f)
+      go (Supply x c n) q t f = absurd-bool t refl
+
+  -- ---- a live entry whose cell has a VAR or a VAL as its end names that VAR or VAL itself
+  own-end : (o d : ℕ) → (isVar (endKind 𝓜 s o d) || isVal (endKind 𝓜 s o d)) ≡ true → endKind 𝓜 s o d ≡ cell 𝓜 s o d
+  own-end o d t = go (cell 𝓜 s o d) refl
+    where
+      go : (k : Kind) → cell 𝓜 s o d ≡ k → endKind 𝓜 s o d ≡ cell 𝓜 s o d
+      go Free q = end-self 𝓜 s o d Free q refl ∙ sym q
+      go Var q = end-self 𝓜 s o d Var q refl ∙ sym q
+      go (Val n) q = end-self 𝓜 s o d (Val n) q refl ∙ sym q
+      go (Ref y) q =
+          let f : CellFact 𝓜 s o (Ref y) = subst (CellFact 𝓜 s o) q (F .cells o d) in
+          absurd-bool t (plain-not-ex (endKind 𝓜 s o d) (ap isEx (end-ref 𝓜 s o d y q) ∙ f .1))
+        where
+          plain-not-ex : (k : Kind) → isEx k ≡ true → (isVar k || isVal k) ≡ false
+          plain-not-ex Free u = absurd-bool u refl
+          plain-not-ex Var u = absurd-bool u refl
+          plain-not-ex (Val n) u = absurd-bool u refl
+          plain-not-ex (Ref z) u = absurd-bool u refl
+          plain-not-ex (Ex a b n st w) u = refl
+      go (Ex a b n st w) q = end-self 𝓜 s o d (Ex a b n st w) q refl ∙ sym q
+
+  pub own-context : (a b : ℕ) → isLive (entry 𝓜 s a b) ≡ true → (isVar (entryEnd 𝓜 s a (entry 𝓜 s a b)) || isVal (entryEnd 𝓜 s a (entry 𝓜 s a b))) ≡ true → (entryNames (cellOf (entry 𝓜 s a b)) (entry 𝓜 s a b) ≡ true) × ((isVar (cell 𝓜 s a (cellOf (entry 𝓜 s a b))) || isVal (cell 𝓜 s a (cellOf (entry 𝓜 s a b)))) ≡ true)
+  own-context a b live = go (entry 𝓜 s a b) live
+    where
+      go : (x : Holding) → isLive x ≡ true → (isVar (entryEnd 𝓜 s a x) || isVal (entryEnd 𝓜 s a x)) ≡ true → (entryNames (cellOf x) x ≡ true) × ((isVar (cell 𝓜 s a (cellOf x)) || isVal (cell 𝓜 s a (cellOf x))) ≡ true)
+      go Unused l t = absurd-bool l refl
+      go (Live d n u) l t = (eq-eqb d d refl, sym (ap (λ (k : Kind). isVar k || isVal k) (own-end a d t)) ∙ t)
+
+-- ---- from one state to the next
+module _ (𝓜 : Machine) (s : Tables) (h : Move) (F : Facts 𝓜 s) (K : Keeps 𝓜 s h) where
+  -- an exported VAR or VAL
+  continues : (w c : ℕ) → exported 𝓜 s w c ≡ true → (isVar (cell 𝓜 s w c) || isVal (cell 𝓜 s w c)) ≡ true → Continues 𝓜 s (next 𝓜 s h) w c
+  continues w c x t = go (cell 𝓜 s w c) refl t
+    where
+      after : (k : Kind) → cell 𝓜 s w c ≡ Var → cell 𝓜 (next 𝓜 s h) w c ≡ k → VarAfter 𝓜 s h F K w k → Continues 𝓜 s (next 𝓜 s h) w c
+      after k was now (ref-to-safe y e same safe) = bound-to y was (now ∙ e)
+      after Free was now (var-or-val u) = absurd-bool u refl
+      after Var was now (var-or-val u) = as-it-was (now ∙ sym was)
+      after (Val v) was now (var-or-val u) = given-a-value v was now
+      after (Ref d) was now (var-or-val u) = absurd-bool u refl
+      after (Ex o e n st a) was now (var-or-val u) = absurd-bool u refl
+
+      go : (k : Kind) → cell 𝓜 s w c ≡ k → (isVar k || isVal k) ≡ true → Continues 𝓜 s (next 𝓜 s h) w c
+      go Free q u = absurd-bool u refl
+      go Var q u = after (cell 𝓜 (next 𝓜 s h) w c) q refl (var-after 𝓜 s h F K w c x q)
+      go (Val n) q u =
+          as-it-was (shown-plain (cell 𝓜 (next 𝓜 s h) w c) (Val n) refl (exported-shown 𝓜 s h F K w c x (ap isVar q) ∙ ap shown q) ∙ sym q)
+      go (Ref d) q u = absurd-bool u refl
+      go (Ex o e n st a) q u = absurd-bool u refl
+
+  context-kept : (o e : ℕ) → isLive (entry 𝓜 s o e) ≡ true → isLive (entry 𝓜 (next 𝓜 s h) o e) ≡ true → KeepsContext 𝓜 s (next 𝓜 s h) o e
+  context-kept o e live live′ =
+      let F′ = facts-kept 𝓜 s h F K in
+      let kept = live-kept 𝓜 s h F K o e live live′ in
+      let l′ = the-live (entry 𝓜 (next 𝓜 s h) o e) live′ in
+      let cell-is : l′ .cell ≡ cellOf (entry 𝓜 s o e) = sym (ap cellOf (l′ .is)) ∙ kept .0 in
+      record {
+        same-cell = kept .0;
+        same-taint = kept .1;
+        not-freed = sym (ap (λ (c : ℕ). isFree (cell 𝓜 (next 𝓜 s h) o c)) cell-is) ∙ live-fact 𝓜 (next 𝓜 s h) F′ o e l′ .2;
+        same-steps = steps;
+        same-context = λ w c l. continues w c (exported-by 𝓜 s w c (l .number) (l .names)) (l .var-or-val);
+      }
+    where
+      place : LivePlace 𝓜 (next 𝓜 s h) (At o e)
+      place = live-place 𝓜 (next 𝓜 s h) o e live′
+
+      steps : (w c : ℕ) (l : LeadsTo 𝓜 s (At o e) w c) → (ahead 𝓜 (next 𝓜 s h) (l .steps) (At o e) ≡ At w (l .number)) × (entryNames c (entry 𝓜 (next 𝓜 s h) w (l .number)) ≡ true)
+      steps w c l =
+          let there = ahead-kept 𝓜 s h F K (l .steps) (At o e) w (l .number) place (l .there) in
+          let alive = ahead-place 𝓜 (next 𝓜 s h) (facts-kept 𝓜 s h F K) (l .steps) (At o e) place w (l .number) there in
+          let y = the-entry-of c (entry 𝓜 s w (l .number)) (l .names) in
+          let kept = live-kept 𝓜 s h F K w (l .number) (names-live-entry c (entry 𝓜 s w (l .number)) (l .names)) alive in
+          let z = the-live (entry 𝓜 (next 𝓜 s h) w (l .number)) alive in
+          let same : z .cell ≡ c = sym (ap cellOf (z .is)) ∙ kept .0 ∙ ap cellOf (y .is) in
+          (there, ap (entryNames c) (z .is) ∙ eq-eqb (z .cell) c same)
+
+-- whatever a call makes
+pub context-made : (𝓜 : Machine) (s t : Tables) → Facts 𝓜 s → Makes 𝓜 s t → (o e : ℕ) → isLive (entry 𝓜 s o e) ≡ true → isLive (entry 𝓜 t o e) ≡ true → KeepsContext 𝓜 s t o e
+context-made 𝓜 s t F (nothing) o e live live′ =
+    let l = the-live (entry 𝓜 s o e) live in
+    record {
+      same-cell = refl;
+      same-taint = refl;
+      not-freed = ap (λ (x : Holding). isFree (cell 𝓜 s o (cellOf x))) (l .is) ∙ live-fact 𝓜 s F o e l .2;
+      same-steps = λ w c x. (x .there, x .names);
+      same-context = λ w c x. as-it-was refl;
+    }
+context-made 𝓜 s t F (moved h K C) o e live live′ = context-kept 𝓜 s h F K o e live live′
