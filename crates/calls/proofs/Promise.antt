@@ -167,7 +167,7 @@ module _ (s : State) (g : ReachedByReplies s) where
   ready-by ks n t d k r m =
       ap (λ (y : Reply). succeeds (y .outcome)) (delivered-is t k r m)
       ∙ subst (λ (y : Tables). succeeds (deliver eight y k .outcome) ≡ holdsReady eight y k) (sym (delivered-rules s ks n t d .1))
-        (demand-3-of-eight .ready-succeeds (tables s) (reached-rules s g) ks k)
+      (demand-3-of-eight .ready-succeeds (tables s) (reached-rules s g) ks k)
 
 -- ---- rest is reached: of the first n states one is at rest, or n deliveries have succeeded
 rest-or-more : (n : ℕ) (at : ℕ → State) (slot : ℕ → ℕ) → ReachedByReplies (at 0)
