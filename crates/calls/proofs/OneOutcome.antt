@@ -1,6 +1,9 @@
--- "A proof shows that no second outcome satisfies it": of each public call, any two replies that meet its contract are equal. `Post` is the
--- contract as Rattle reads it from the source: what is owed of the arguments, the result and the parameters at exit. Assumes nothing.
+-- "A proof shows that no second outcome satisfies it": of each public call, and of the soundness test, any two results that meet the contract
+-- are equal. `Post` is the contract as Rattle reads it from the source: what is owed of the arguments, the result and the parameters at exit.
+-- Assumes nothing.
 use mathlib.Core.Path.{_≡_, sym, _∙_}
+use Rattle.sound.proofs.is_sound.Reads as is-sound
+use Rattle.sound.proofs.first_broken.Reads as first-broken
 use Rattle.calls.proofs.start.Reads as start
 use Rattle.calls.proofs.new.Reads as new
 use Rattle.calls.proofs.set.Reads as set
@@ -19,9 +22,20 @@ use Rattle.calls.proofs.step.Reads as step
 abbrev pub OneOutcome : {A R E : Type 0} → (A → R → E → Type 0) → Type 0
 OneOutcome {A} {R} {E} meets = (a : A) (x y : R) (e f : E) → meets a x e → meets a y f → x ≡ y
 
+-- the same of a function that writes into what it is lent: its result and what it leaves there
+abbrev pub OneOutcomeAndBuffer : {A R E L : Type 0} → (E → L) → (A → R → E → Type 0) → Type 0
+OneOutcomeAndBuffer {A} {R} {E} left meets =
+    (a : A) (x y : R) (e f : E) → meets a x e → meets a y f → (x ≡ y) × (left e ≡ left f)
+
 -- so it is where the contract says what the result is
-one : {R : Type 0} {x y z : R} → x ≡ z → y ≡ z → x ≡ y
+pub one : {R : Type 0} {x y z : R} → x ≡ z → y ≡ z → x ≡ y
 one p q = p ∙ sym q
+
+pub is-sound-one : OneOutcome (is-sound.Post tt)
+is-sound-one a x y e f p q = one p q
+
+pub first-broken-one : OneOutcome (first-broken.Post tt)
+first-broken-one a x y e f p q = one p q
 
 pub start-one : OneOutcome (start.Post tt)
 start-one a x y e f p q = one p q

@@ -1,2 +1,3 @@
--- The laws of the run's loop.
+-- The laws of the run's loop, and that the run has one outcome.
 pub mod Laws
+pub mod OneOutcome

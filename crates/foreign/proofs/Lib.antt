@@ -1,0 +1,2 @@
+-- What is shown of the exported run.
+pub mod OneOutcome
