@@ -23,7 +23,7 @@ use Rattle.tables.specs.Look.{cell, entry, message}
 use Rattle.rules.specs.Answers.{reply, succeeds, valueOf, checked}
 use Rattle.rules.specs.Sound.{held, sound}
 use Rattle.rules.specs.Chains.{EndsIn}
-use Rattle.rules.specs.Calls.{start, bound, B}
+use Rattle.rules.specs.Calls.{bound, B}
 use Rattle.rules.specs.Deliver.{deliver}
 use Rattle.rules.specs.Step.{isStart, step, drained, successes, Reached, begun, after}
 use Rattle.rules.specs.Statements.{messageNames, ComesToAnEnd, holdsReady, AtRest, readOfUnbound, KnownWith, KeepsContext}
@@ -219,11 +219,15 @@ promised s g =
       at-most-b = at-most s g;
       ready-succeeds = ready-by s g;
       only-unbound-reads =
-          λ ks n t d rest k. let q = delivered-rules s ks n t d .1 in subst (λ (y : Tables). readOfUnbound eight y (message y k) ≡ true) (sym q) (D .only-unbound-reads (tables s) r ks (subst (AtRest eight) q rest) k);
+          λ ks n t d rest k.
+          let q = delivered-rules s ks n t d .1 in
+          subst (λ (y : Tables). readOfUnbound eight y (message y k) ≡ true) (sym q) (D .only-unbound-reads (tables s) r ks (subst (AtRest eight) q rest) k);
       rest-is-reached =
           λ b m at slot first takes. rest-reached at slot (subst ReachedByReplies (sym first) g) b (subst (λ (y : State). Replies y Bound b) (sym first) m) takes;
       brought =
-          λ ks n t d rest w c o e m v a is ends. let q = delivered-rules s ks n t d .1 in subst (λ (y : Tables). KnownWith eight y w c o e v) (sym q) (D .brought (tables s) r w c o e m v a is ends ks (subst (AtRest eight) q rest));
+          λ ks n t d rest w c o e m v a is ends.
+          let q = delivered-rules s ks n t d .1 in
+          subst (λ (y : Tables). KnownWith eight y w c o e v) (sym q) (D .brought (tables s) r w c o e m v a is ends ks (subst (AtRest eight) q rest));
       refers-to-live = D .refers-to-live (tables s) r;
       reference-keeps-context =
           λ q n x m o e live. subst (λ (t : Tables). isLive (entry eight t o e) ≡ true → KeepsContext eight (tables s) t o e) (sym (next-is s q x m)) (D .reference-keeps-context (tables s) r q n o e live);

@@ -49,7 +49,8 @@ along-checked v s [] r = refl
 along-checked v s ((why when hit) ∷ l) r = along-checked (refuseIf v hit why) s l r ∙ one-refusal v hit why s (checked s l r)
 
 -- what is done need be right in a sound state only
-in-sound : (sound : Bool) (s : Tables) (l : List Check) (a r : Result) → (sound ≡ true → a ≡ r) → checked s ((NotSound when not sound) ∷ l) a ≡ checked s ((NotSound when not sound) ∷ l) r
+in-sound : (sound : Bool) (s : Tables) (l : List Check) (a r : Result) → (sound ≡ true → a ≡ r)
+    → checked s ((NotSound when not sound) ∷ l) a ≡ checked s ((NotSound when not sound) ∷ l) r
 unfolding checked
 in-sound true s l a r h = ap (λ (x : Result). checked s l x) (h refl)
 in-sound false s l a r h = refl
@@ -60,7 +61,8 @@ made-answered 𝓜 s Go done = refl
 made-answered 𝓜 s (Stop why) done = refl
 
 -- a call's reply: its verdict is that of its refusals, and what is done makes, in a sound state, what the rule says
-pub decides : (𝓜 : Machine) (s : Tables) (l : List Check) (r : Result) (v : Verdict) (done : Effect) → v ≡ along Go (notSound 𝓜 s ∷ l) → (sound 𝓜 s ≡ true → made 𝓜 s done ≡ r) → reply (made 𝓜 s (answered v done)) ≡ reply (checked s (notSound 𝓜 s ∷ l) r)
+pub decides : (𝓜 : Machine) (s : Tables) (l : List Check) (r : Result) (v : Verdict) (done : Effect) → v ≡ along Go (notSound 𝓜 s ∷ l)
+    → (sound 𝓜 s ≡ true → made 𝓜 s done ≡ r) → reply (made 𝓜 s (answered v done)) ≡ reply (checked s (notSound 𝓜 s ∷ l) r)
 unfolding settled
 decides 𝓜 s l r v done e h =
     rw e (ap reply (made-answered 𝓜 s (along Go (notSound 𝓜 s ∷ l)) done ∙ along-checked Go s (notSound 𝓜 s ∷ l) (made 𝓜 s done) ∙ in-sound (sound 𝓜 s) s l (made 𝓜 s done) r h))

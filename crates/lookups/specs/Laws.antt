@@ -51,7 +51,8 @@ sum-same (suc n) f m h =
     omega arith
 
 -- a count over a list's places is the total over its elements
-pub count-total : {A : Type 0} (q : A → Bool) (l : List A) (d : A) {k n : ℕ} → length l ≡ n → k ≡ countBelow n (λ i. q (getD l i d)) → k ≡ total (λ x. bit (q x)) l
+pub count-total : {A : Type 0} (q : A → Bool) (l : List A) (d : A) {k n : ℕ} → length l ≡ n → k ≡ countBelow n (λ i. q (getD l i d))
+    → k ≡ total (λ x. bit (q x)) l
 count-total q l d e h = rw (total-below (λ x. bit (q x)) l d, e) h
 
 -- a bit is at most 1
@@ -62,13 +63,16 @@ bit-small false h = omega arith
 -- ---- a worker's cells and entries, and the lists that hold them
 module _ (𝓜 : Machine) (s : Tables) (w : ℕ) where
   -- inside the machine the code searches and counts in the lists
-  pub cells-found : (q : Kind → Bool) → w < 𝓜 .workers → lowest (𝓜 .cells) (λ c. q (kindAt (s .cells) (w * 𝓜 .cells + c))) ≡ lowest (𝓜 .cells) (λ c. q (cell 𝓜 s w c))
+  pub cells-found : (q : Kind → Bool) → w < 𝓜 .workers
+      → lowest (𝓜 .cells) (λ c. q (kindAt (s .cells) (w * 𝓜 .cells + c))) ≡ lowest (𝓜 .cells) (λ c. q (cell 𝓜 s w c))
   cells-found q h = lowest-cong (𝓜 .cells) _ _ (λ c l. ap q (sym (cell-in 𝓜 s w c h l)))
 
-  pub entries-found : (q : Holding → Bool) → w < 𝓜 .workers → lowest (𝓜 .entries) (λ e. q (holdingAt (s .entries) (w * 𝓜 .entries + e))) ≡ lowest (𝓜 .entries) (λ e. q (entry 𝓜 s w e))
+  pub entries-found : (q : Holding → Bool) → w < 𝓜 .workers
+      → lowest (𝓜 .entries) (λ e. q (holdingAt (s .entries) (w * 𝓜 .entries + e))) ≡ lowest (𝓜 .entries) (λ e. q (entry 𝓜 s w e))
   entries-found q h = lowest-cong (𝓜 .entries) _ _ (λ e l. ap q (sym (entry-in 𝓜 s w e h l)))
 
-  pub cells-count : (q : Kind → Bool) → w < 𝓜 .workers → countBelow (𝓜 .cells) (λ c. q (kindAt (s .cells) (w * 𝓜 .cells + c))) ≡ countBelow (𝓜 .cells) (λ c. q (cell 𝓜 s w c))
+  pub cells-count : (q : Kind → Bool) → w < 𝓜 .workers
+      → countBelow (𝓜 .cells) (λ c. q (kindAt (s .cells) (w * 𝓜 .cells + c))) ≡ countBelow (𝓜 .cells) (λ c. q (cell 𝓜 s w c))
   cells-count q h = sum-cong (𝓜 .cells) _ _ (λ c l. ap (λ (k : Kind). bit (q k)) (sym (cell-in 𝓜 s w c h l)))
 
   -- past the last worker: every cell is free, every entry unused

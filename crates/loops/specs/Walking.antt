@@ -33,7 +33,8 @@ module _ {A : Type 0} where
       let q : n - i ≡ suc (n - (i + 1)) = omega arith in
       sym (rw q at (s .rest) ∙ met p next (n - (i + 1)) a (sym e ∙ t))
 
-  pub walk-on : {p : A → Bool} {next : A → A} {n i : ℕ} {a c : A} {r b : Bool} → Walking p next n i a r → i < n → b ≡ p a → b ≡ false → c ≡ next a → Walking p next n (i + 1) c r
+  pub walk-on : {p : A → Bool} {next : A → A} {n i : ℕ} {a c : A} {r b : Bool} → Walking p next n i a r → i < n → b ≡ p a → b ≡ false → c ≡ next a
+      → Walking p next n (i + 1) c r
   walk-on {p} {next} {n} {i} {a} s h e t g =
       let q : n - i ≡ suc (n - (i + 1)) = omega arith in
       record { within = omega arith; rest = rw g (rw q at (s .rest) ∙ passed p next (n - (i + 1)) a (sym e ∙ t)) }

@@ -193,7 +193,8 @@ unfolding lowestFrom
 at-from p zero i h = absurd (omega arith)
 at-from p (suc n) i h = go (p i) refl (at-from p n (suc i)) h
   where
-    go : (b : Bool) → p i ≡ b → (lowestFrom p n (suc i) < suc i + n → p (lowestFrom p n (suc i)) ≡ true) → cond b i (lowestFrom p n (suc i)) < i + suc n → p (cond b i (lowestFrom p n (suc i))) ≡ true
+    go : (b : Bool) → p i ≡ b → (lowestFrom p n (suc i) < suc i + n → p (lowestFrom p n (suc i)) ≡ true)
+        → cond b i (lowestFrom p n (suc i)) < i + suc n → p (cond b i (lowestFrom p n (suc i))) ≡ true
     go true e later k = e
     go false e later k = later (omega arith)
 
@@ -205,7 +206,8 @@ unfolding lowestFrom
 past-from p zero i h j a b = absurd (omega arith)
 past-from p (suc n) i h j a b = go (p i) refl h (past-from p n (suc i)) (ℕ-discrete j i)
   where
-    go : (b : Bool) → p i ≡ b → i + suc n ≤ cond b i (lowestFrom p n (suc i)) → (suc i + n ≤ lowestFrom p n (suc i) → (j : ℕ) → suc i ≤ j → j < suc i + n → p j ≡ false) → Dec (j ≡ i) → p j ≡ false
+    go : (b : Bool) → p i ≡ b → i + suc n ≤ cond b i (lowestFrom p n (suc i))
+        → (suc i + n ≤ lowestFrom p n (suc i) → (j : ℕ) → suc i ≤ j → j < suc i + n → p j ≡ false) → Dec (j ≡ i) → p j ≡ false
     go true e k later q = absurd (omega arith)
     go false e k later (yes q) = rw q e
     go false e k later (no q) = later (omega arith) j (omega arith) (omega arith)

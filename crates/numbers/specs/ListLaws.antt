@@ -70,7 +70,8 @@ module _ {A : Type 0} where
   total-some f [] d h = absurd (omega arith)
   total-some f (x ∷ xs) d h = go (f x) refl (λ k. total-some f xs d k)
     where
-      go : (n : ℕ) → f x ≡ n → (1 ≤ total f xs → (i : ℕ) × (i < length xs) × (1 ≤ f (getD xs i d))) → (i : ℕ) × (i < length (x ∷ xs)) × (1 ≤ f (getD (x ∷ xs) i d))
+      go : (n : ℕ) → f x ≡ n → (1 ≤ total f xs → (i : ℕ) × (i < length xs) × (1 ≤ f (getD xs i d)))
+          → (i : ℕ) × (i < length (x ∷ xs)) × (1 ≤ f (getD (x ∷ xs) i d))
       go zero e rec =
           let r : (i : ℕ) × (i < length xs) × (1 ≤ f (getD xs i d)) = rec (omega arith) in
           (suc (r .0), omega (arith, r .1), r .2)

@@ -50,7 +50,8 @@ pigeon (suc n) f h = go (someBelow (suc n) same) refl (pigeon n (λ i. without (
     same : ℕ → Bool
     same i = eqb (f i) (f (suc n))
 
-    go : (b : Bool) → someBelow (suc n) same ≡ b → (((i : ℕ) → i ≤ n → without (f (suc n)) (f i) < n) → Twice n (λ i. without (f (suc n)) (f i))) → Twice (suc n) f
+    go : (b : Bool) → someBelow (suc n) same ≡ b → (((i : ℕ) → i ≤ n → without (f (suc n)) (f i) < n) → Twice n (λ i. without (f (suc n)) (f i)))
+        → Twice (suc n) f
     go true t rec =
         let i = lowest (suc n) same in
         let l = ltb-true i (suc n) t in

@@ -39,7 +39,7 @@ use Rattle.rules.proofs.Kept.{facts-kept}
 use Rattle.rules.proofs.Onward.{follow-live, ahead-kept, ends-kept}
 use Rattle.rules.proofs.Count.{standing-some, standing-falls, EndIs, plain, leads, end-is}
 use Rattle.rules.proofs.Measure.{spends, status-same, kind-same, Arrived, arrived, arrived-cell, arrived-ex, arrived-entry}
-use Rattle.rules.proofs.Moves.{cellMove, entryMove, put-message, ExMoves, ex-keeps, entry-keeps}
+use Rattle.rules.proofs.Moves.{cellMove, entryMove, slotMove, put-message, ExMoves, ex-keeps, entry-keeps}
 use Rattle.rules.proofs.Steps.{after-checked, not-false, cond-add, free-cell, free-not-busy}
 use Rattle.rules.proofs.Local.{weight-some}
 use Rattle.rules.proofs.Entries.{cells-same, entries-same, entry-next}
@@ -98,7 +98,11 @@ module _ (𝓜 : Machine) (L : Laws 𝓜) (s : Tables) (I : Invariant 𝓜 s) (�
       (go (l .cell) (l .weight) (l .tainted) (l .is) f (inside .0) (inside .1) within enough (leb (l .weight) w) refl)
     where
       -- the entry, which held x₀, then holds x
-      taken : (x₀ x : Holding) → entry 𝓜 s o e ≡ x₀ → o < 𝓜 .workers → e < 𝓜 .entries → k < 𝓜 .slots → EntryFact 𝓜 (next 𝓜 s (entryMove 𝓜 s o e x₀ x k m₀ Empty)) o x → (isLive x₀ ≡ true → isLive x ≡ true → (cellOf x ≡ cellOf x₀) × (isTainted x ≡ isTainted x₀)) → ((f d : ℕ) → entryNames d x ≡ true → entryNames d (entry 𝓜 s o f) ≡ true → f ≡ e) → (isLive x ≡ true → isLive x₀ ≡ true) → entryWeight x + w ≡ entryWeight x₀ → Arrived 𝓜 s ρ (putMessage (putEntry 𝓜 s o e x) k Empty)
+      taken : (x₀ x : Holding) → entry 𝓜 s o e ≡ x₀ → o < 𝓜 .workers → e < 𝓜 .entries → k < 𝓜 .slots
+          → EntryFact 𝓜 (next 𝓜 s (entryMove 𝓜 s o e x₀ x k m₀ Empty)) o x
+          → (isLive x₀ ≡ true → isLive x ≡ true → (cellOf x ≡ cellOf x₀) × (isTainted x ≡ isTainted x₀))
+          → ((f d : ℕ) → entryNames d x ≡ true → entryNames d (entry 𝓜 s o f) ≡ true → f ≡ e) → (isLive x ≡ true → isLive x₀ ≡ true)
+          → entryWeight x + w ≡ entryWeight x₀ → Arrived 𝓜 s ρ (putMessage (putEntry 𝓜 s o e x) k Empty)
       taken x₀ x q oi ei ki fact kept new live less =
           arrived-entry 𝓜 L s I ρ R o e x₀ x k m₀ Empty
           (record {
@@ -121,7 +125,8 @@ module _ (𝓜 : Machine) (L : Laws 𝓜) (s : Tables) (I : Invariant 𝓜 s) (�
           live
           (B .cost (next 𝓜 s (entryMove 𝓜 s o e x₀ x k m₀ Empty)))
 
-      go : (c n : ℕ) (t : Bool) → entry 𝓜 s o e ≡ Live c n t → EntryFact 𝓜 s o (Live c n t) → o < 𝓜 .workers → e < 𝓜 .entries → k < 𝓜 .slots → w ≤ n → (b : Bool) → leb n w ≡ b → Arrived 𝓜 s ρ (putMessage (putEntry 𝓜 s o e (cond b Unused (Live c (n - w) t))) k Empty)
+      go : (c n : ℕ) (t : Bool) → entry 𝓜 s o e ≡ Live c n t → EntryFact 𝓜 s o (Live c n t) → o < 𝓜 .workers → e < 𝓜 .entries → k < 𝓜 .slots → w ≤ n
+          → (b : Bool) → leb n w ≡ b → Arrived 𝓜 s ρ (putMessage (putEntry 𝓜 s o e (cond b Unused (Live c (n - w) t))) k Empty)
       go c n t q f oi ei ki enough true all =
           taken (Live c n t) Unused q oi ei ki tt (λ a b. absurd-bool b refl) (λ f d a b. absurd-bool a refl) (λ y. refl)
           (omega (arith, leb-true n w all))
@@ -150,7 +155,8 @@ module _ (𝓜 : Machine) (L : Laws 𝓜) (s : Tables) (I : Invariant 𝓜 s) (�
       within : k < 𝓜 .slots
       within = message-inside k (ap isEmpty q)
 
-      go : (b : Bool) → ltb (exNaming 𝓜 s to o e) (𝓜 .cells) ≡ b → Arrived 𝓜 s ρ (putMessage (putCell 𝓜 s to (cond b (exNaming 𝓜 s to o e) (lowestFreeCell 𝓜 s to)) (joined o e w (cell 𝓜 s to (cond b (exNaming 𝓜 s to o e) (lowestFreeCell 𝓜 s to))))) k Empty)
+      go : (b : Bool) → ltb (exNaming 𝓜 s to o e) (𝓜 .cells) ≡ b
+          → Arrived 𝓜 s ρ (putMessage (putCell 𝓜 s to (cond b (exNaming 𝓜 s to o e) (lowestFreeCell 𝓜 s to)) (joined o e w (cell 𝓜 s to (cond b (exNaming 𝓜 s to o e) (lowestFreeCell 𝓜 s to))))) k Empty)
       go true found =
           let c = exNaming 𝓜 s to o e in
           let x = the-ex-of o e (cell 𝓜 s to c) (lowest-at (𝓜 .cells) (λ d. exNames o e (cell 𝓜 s to d)) (ltb-true c (𝓜 .cells) found)) in
@@ -221,7 +227,10 @@ module _ (𝓜 : Machine) (L : Laws 𝓜) (s : Tables) (I : Invariant 𝓜 s) (�
           fits v false r = omega arith
 
   -- ---- a Read goes on, or turns into an Answer
-  passes : (k r c o e : ℕ) (m : Message) → message s k ≡ Read r c o e → ((t : Tables) → MessageFact 𝓜 t m) → ((v d : ℕ) → readsFor v d m ≡ (eqb r v && eqb c d)) → ((v d : ℕ) → asksFor v d m ≡ false) → ((t : Tables) (a b : ℕ) → messageHolds 𝓜 t a b m ≡ 0) → ((v : ℕ) → goesTo v m ≡ false) → Keeps 𝓜 s (entryMove 𝓜 s 0 0 (entry 𝓜 s 0 0) (entry 𝓜 s 0 0) k (Read r c o e) m)
+  passes : (k r c o e : ℕ) (m : Message) → message s k ≡ Read r c o e → ((t : Tables) → MessageFact 𝓜 t m)
+      → ((v d : ℕ) → readsFor v d m ≡ (eqb r v && eqb c d)) → ((v d : ℕ) → asksFor v d m ≡ false)
+      → ((t : Tables) (a b : ℕ) → messageHolds 𝓜 t a b m ≡ 0) → ((v : ℕ) → goesTo v m ≡ false)
+      → Keeps 𝓜 s (slotMove 𝓜 s k (Read r c o e) m)
   passes k r c o e m q ok reads asks holds goes =
       entry-keeps 𝓜 L s (I .facts) 0 0 (entry 𝓜 s 0 0) (entry 𝓜 s 0 0) k (Read r c o e) m
       (record {
@@ -231,28 +240,31 @@ module _ (𝓜 : Machine) (L : Laws 𝓜) (s : Tables) (I : Invariant 𝓜 s) (�
         old-entry = refl;
         old-message = q;
         entry-ok = inl refl;
-        message-ok = ok (next 𝓜 s (entryMove 𝓜 s 0 0 (entry 𝓜 s 0 0) (entry 𝓜 s 0 0) k (Read r c o e) m));
+        message-ok = ok (next 𝓜 s (slotMove 𝓜 s k (Read r c o e) m));
         entry-kept = λ a b. (refl, refl);
         entry-new = λ f d a b. I .facts .entry-once 0 f 0 d b a;
         reads = λ v d. ap bit (reads v d);
         asks = λ v d. ap bit (asks v d);
         weights = λ a b. omega (arith, holds s a b);
-        holds-ok = λ a b. holds (next 𝓜 s (entryMove 𝓜 s 0 0 (entry 𝓜 s 0 0) (entry 𝓜 s 0 0) k (Read r c o e) m)) a b ∙ sym (holds s a b);
+        holds-ok = λ a b. holds (next 𝓜 s (slotMove 𝓜 s k (Read r c o e) m)) a b ∙ sym (holds s a b);
         room = λ v. omega (arith, I .facts .room v, ap bit (goes v));
       })
 
   -- where the EX of the Read names what it named
-  reader-place : (k r c o e : ℕ) (m : Message) (K : Keeps 𝓜 s (entryMove 𝓜 s 0 0 (entry 𝓜 s 0 0) (entry 𝓜 s 0 0) k (Read r c o e) m)) → message s k ≡ Read r c o e → (namedBy (cell 𝓜 (next 𝓜 s (entryMove 𝓜 s 0 0 (entry 𝓜 s 0 0) (entry 𝓜 s 0 0) k (Read r c o e) m)) r c) ≡ namedBy (cell 𝓜 s r c)) × LivePlace 𝓜 (next 𝓜 s (entryMove 𝓜 s 0 0 (entry 𝓜 s 0 0) (entry 𝓜 s 0 0) k (Read r c o e) m)) (namedBy (cell 𝓜 s r c))
+  reader-place : (k r c o e : ℕ) (m : Message) (K : Keeps 𝓜 s (slotMove 𝓜 s k (Read r c o e) m))
+      → message s k ≡ Read r c o e
+      → (namedBy (cell 𝓜 (next 𝓜 s (slotMove 𝓜 s k (Read r c o e) m)) r c) ≡ namedBy (cell 𝓜 s r c)) × LivePlace 𝓜 (next 𝓜 s (slotMove 𝓜 s k (Read r c o e) m)) (namedBy (cell 𝓜 s r c))
   reader-place k r c o e m K q =
       let same = ap namedBy (cells-same 𝓜 L s (I .facts) 0 0 (entry 𝓜 s 0 0) (entry 𝓜 s 0 0) k (Read r c o e) m (L .workers-some) (L .entries-some) (message-inside k (ap isEmpty q)) refl q r c) in
-      let h = entryMove 𝓜 s 0 0 (entry 𝓜 s 0 0) (entry 𝓜 s 0 0) k (Read r c o e) m in
+      let h = slotMove 𝓜 s k (Read r c o e) m in
       (same, subst (LivePlace 𝓜 (next 𝓜 s h)) same (named-place 𝓜 (next 𝓜 s h) (facts-kept 𝓜 s h (I .facts) K) r c))
 
   read-of : (k r c o e : ℕ) → message s k ≡ Read r c o e → (n : ℕ) × (ahead 𝓜 s n (namedBy (cell 𝓜 s r c)) ≡ At o e)
   read-of k r c o e q = subst (λ (m : Message). (n : ℕ) × ReadAhead 𝓜 s n m) q (I .reads k)
 
   -- its entry is live after it goes on
-  live-read : (k r c o e : ℕ) (m : Message) (K : Keeps 𝓜 s (entryMove 𝓜 s 0 0 (entry 𝓜 s 0 0) (entry 𝓜 s 0 0) k (Read r c o e) m)) → message s k ≡ Read r c o e → isLive (entry 𝓜 (next 𝓜 s (entryMove 𝓜 s 0 0 (entry 𝓜 s 0 0) (entry 𝓜 s 0 0) k (Read r c o e) m)) o e) ≡ true
+  live-read : (k r c o e : ℕ) (m : Message) (K : Keeps 𝓜 s (slotMove 𝓜 s k (Read r c o e) m))
+      → message s k ≡ Read r c o e → isLive (entry 𝓜 (next 𝓜 s (slotMove 𝓜 s k (Read r c o e) m)) o e) ≡ true
   live-read k r c o e m K q =
       ap isLive (entries-same 𝓜 L s (I .facts) 0 0 (entry 𝓜 s 0 0) (entry 𝓜 s 0 0) k (Read r c o e) m (L .workers-some) (L .entries-some) (message-inside k (ap isEmpty q)) refl q refl o e)
       ∙ read-live 𝓜 s (I .facts) (I .reads) k r c o e q
@@ -261,7 +273,7 @@ module _ (𝓜 : Machine) (L : Laws 𝓜) (s : Tables) (I : Invariant 𝓜 s) (�
   unfolding ahead
   goes-on k r c o e o′ e′ q step =
       let m = Read r c o′ e′ in
-      let h = entryMove 𝓜 s 0 0 (entry 𝓜 s 0 0) (entry 𝓜 s 0 0) k (Read r c o e) m in
+      let h = slotMove 𝓜 s k (Read r c o e) m in
       let K = passes k r c o e m q (λ t. tt) (λ v d. refl) (λ v d. refl) (λ t a b. refl) (λ v. refl) in
       let at = read-of k r c o e q in
       let place = reader-place k r c o e m K q in
@@ -281,7 +293,7 @@ module _ (𝓜 : Machine) (L : Laws 𝓜) (s : Tables) (I : Invariant 𝓜 s) (�
   is-answered : (k r c o e v : ℕ) → message s k ≡ Read r c o e → EndsIn 𝓜 s (At o e) v → Arrived 𝓜 s ρ (putMessage s k (Answer r c v))
   is-answered k r c o e v q ends =
       let m = Answer r c v in
-      let h = entryMove 𝓜 s 0 0 (entry 𝓜 s 0 0) (entry 𝓜 s 0 0) k (Read r c o e) m in
+      let h = slotMove 𝓜 s k (Read r c o e) m in
       let K = passes k r c o e m q (λ t. tt) (λ v d. refl) (λ v d. refl) (λ t a b. refl) (λ v. refl) in
       let at = read-of k r c o e q in
       let place = reader-place k r c o e m K q in
@@ -310,7 +322,9 @@ module _ (𝓜 : Machine) (L : Laws 𝓜) (s : Tables) (I : Invariant 𝓜 s) (�
       no-end y v n (plain t) = absurd-bool t v
       no-end y v n (leads a b t) = nowhere-at (sym n ∙ t)
 
-      at-end : (d n : ℕ) (t : Bool) → entry 𝓜 s o e ≡ Live d n t → (y : Kind) → cell 𝓜 s o (end 𝓜 s o d) ≡ y → EndIs 𝓜 L s (I .facts) ρ R o (cell 𝓜 s o (end 𝓜 s o d)) → not (isVar (cell 𝓜 s o (end 𝓜 s o d))) ≡ true → Arrived 𝓜 s ρ (putMessage s k (readOn r c (Read r c o e) y))
+      at-end : (d n : ℕ) (t : Bool) → entry 𝓜 s o e ≡ Live d n t → (y : Kind) → cell 𝓜 s o (end 𝓜 s o d) ≡ y
+          → EndIs 𝓜 L s (I .facts) ρ R o (cell 𝓜 s o (end 𝓜 s o d)) → not (isVar (cell 𝓜 s o (end 𝓜 s o d))) ≡ true
+          → Arrived 𝓜 s ρ (putMessage s k (readOn r c (Read r c o e) y))
       at-end d n t i Free j is w = no-end Free refl refl (subst (EndIs 𝓜 L s (I .facts) ρ R o) j is)
       at-end d n t i Var j is w = absurd-bool w (ap (λ (y : Kind). not (isVar y)) j)
       at-end d n t i (Val v) j is w =
@@ -395,7 +409,8 @@ module _ (𝓜 : Machine) (L : Laws 𝓜) (s : Tables) (I : Invariant 𝓜 s) (�
       subst (λ (x : Holding). Arrived 𝓜 s ρ (putMessage (putEntry 𝓜 s o e (grown (min (𝓜 .firstWeight) (𝓜 .ceiling - entryWeight x)) x)) k (Supply a c (min (𝓜 .firstWeight) (𝓜 .ceiling - entryWeight x))))) (sym (l .is))
       (go (l .cell) (l .weight) (l .tainted) (min (𝓜 .firstWeight) (𝓜 .ceiling - l .weight)) (l .is) (live-fact 𝓜 s (I .facts) o e l) (inside .0) (inside .1) (min-le-right (𝓜 .firstWeight) (𝓜 .ceiling - l .weight)) (the-ex-of o e (cell 𝓜 s a c) names))
     where
-      go : (d n : ℕ) (t : Bool) (w : ℕ) → entry 𝓜 s o e ≡ Live d n t → EntryFact 𝓜 s o (Live d n t) → o < 𝓜 .workers → e < 𝓜 .entries → w ≤ 𝓜 .ceiling - n → ExOf o e (cell 𝓜 s a c) → Arrived 𝓜 s ρ (putMessage (putEntry 𝓜 s o e (Live d (n + w) t)) k (Supply a c w))
+      go : (d n : ℕ) (t : Bool) (w : ℕ) → entry 𝓜 s o e ≡ Live d n t → EntryFact 𝓜 s o (Live d n t) → o < 𝓜 .workers → e < 𝓜 .entries
+          → w ≤ 𝓜 .ceiling - n → ExOf o e (cell 𝓜 s a c) → Arrived 𝓜 s ρ (putMessage (putEntry 𝓜 s o e (Live d (n + w) t)) k (Supply a c w))
       go d n t w i f oi ei small x =
           let within = message-inside k (ap isEmpty q) in
           let at-place : (y z : ℕ) → exNames y z (cell 𝓜 s a c) ≡ (eqb o y && eqb e z) = λ y z. ap (exNames y z) (x .is) in

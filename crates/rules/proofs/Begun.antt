@@ -112,7 +112,9 @@ pub start-invariant : (𝓜 : Machine) (p : ℕ) → succeeds (start 𝓜 p .out
 unfolding start checked
 start-invariant 𝓜 p ok = go (eqb p 0 || ltb (𝓜 .workers) p) refl ok
   where
-    go : (b : Bool) → (eqb p 0 || ltb (𝓜 .workers) p) ≡ b → succeeds (refuse b WorkerCount (closed 𝓜) (record { outcome = Done 0; after = allFree 𝓜 p }) .outcome) ≡ true → Invariant 𝓜 (refuse b WorkerCount (closed 𝓜) (record { outcome = Done 0; after = allFree 𝓜 p }) .after)
+    go : (b : Bool) → (eqb p 0 || ltb (𝓜 .workers) p) ≡ b
+        → succeeds (refuse b WorkerCount (closed 𝓜) (record { outcome = Done 0; after = allFree 𝓜 p }) .outcome) ≡ true
+        → Invariant 𝓜 (refuse b WorkerCount (closed 𝓜) (record { outcome = Done 0; after = allFree 𝓜 p }) .after)
     go true t k = absurd-bool k refl
     go false t k =
         let n = or-no (eqb p 0) (ltb (𝓜 .workers) p) t in

@@ -54,7 +54,8 @@ module _ (𝓜 : Machine) (s : Tables) (w c : ℕ) where
   busy-asking h = or-r (exported 𝓜 s w c || referred 𝓜 s w c || isReading (cell 𝓜 s w c)) h
 
   -- a cell that is not busy
-  pub idle-parts : busy 𝓜 s w c ≡ false → (exported 𝓜 s w c ≡ false) × (referred 𝓜 s w c ≡ false) × (isReading (cell 𝓜 s w c) ≡ false) × (isAsking (cell 𝓜 s w c) ≡ false)
+  pub idle-parts : busy 𝓜 s w c ≡ false
+      → (exported 𝓜 s w c ≡ false) × (referred 𝓜 s w c ≡ false) × (isReading (cell 𝓜 s w c) ≡ false) × (isAsking (cell 𝓜 s w c) ≡ false)
   unfolding busy
   idle-parts h =
       let a = or-no (exported 𝓜 s w c || referred 𝓜 s w c || isReading (cell 𝓜 s w c)) (isAsking (cell 𝓜 s w c)) h in

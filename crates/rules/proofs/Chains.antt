@@ -7,14 +7,12 @@ use mathlib.Core.Bool.{true}
 use Rattle.numbers.specs.Tests.{absurd-bool}
 use Rattle.tables.specs.declared.Kind.{Kind}
 use Rattle.tables.specs.declared.Kind.the-variants.{Free, Var, Val, Ref, Ex}
-use Rattle.tables.specs.declared.Holding.{Holding}
-use Rattle.tables.specs.declared.Holding.the-variants.{Unused, Live}
 use Rattle.tables.specs.declared.Place.{Place}
 use Rattle.tables.specs.declared.Place.the-variants.{Nowhere, At}
 use Rattle.tables.specs.Machine.{Machine, Tables}
 use Rattle.tables.specs.Parts.{isVar, namedBy}
 use Rattle.tables.specs.Look.{entry}
-use Rattle.rules.specs.Chains.{entryEnd, through, follow, ahead, EndsIn}
+use Rattle.rules.specs.Chains.{entryEnd, follow, ahead, EndsIn}
 use Rattle.rules.proofs.Named.{nowhere-at}
 use Rattle.rules.proofs.Onward.{ahead-nowhere}
 use Rattle.rules.proofs.Arrive.{ahead-add}

@@ -14,7 +14,7 @@ use Rattle.tables.specs.declared.Message.{Message}
 use Rattle.tables.specs.declared.Message.the-variants.{Empty, Reference, Release, Read, Answer, Ask, Supply}
 use Rattle.tables.specs.declared.Place.the-variants.{At}
 use Rattle.tables.specs.Machine.{Machine, Tables}
-use Rattle.tables.specs.Parts.{isFree, isVar, isVal, isEx, exNames, isLive, entryNames, cellOf}
+use Rattle.tables.specs.Parts.{isFree, isVar, isVal, isEx, isLive, entryNames, cellOf}
 use Rattle.tables.specs.Look.{cell, entry, endKind, exported, message}
 use Rattle.rules.specs.Chains.{entryEnd, ahead, LeadsTo}
 use Rattle.rules.specs.Sound.{messageHolds}
@@ -71,10 +71,13 @@ module _ (𝓜 : Machine) (s : Tables) (F : Facts 𝓜 s) where
           plain-not-ex (Ex a b n st w) u = refl
       go (Ex a b n st w) q = end-self 𝓜 s o d (Ex a b n st w) q refl ∙ sym q
 
-  pub own-context : (a b : ℕ) → isLive (entry 𝓜 s a b) ≡ true → (isVar (entryEnd 𝓜 s a (entry 𝓜 s a b)) || isVal (entryEnd 𝓜 s a (entry 𝓜 s a b))) ≡ true → (entryNames (cellOf (entry 𝓜 s a b)) (entry 𝓜 s a b) ≡ true) × ((isVar (cell 𝓜 s a (cellOf (entry 𝓜 s a b))) || isVal (cell 𝓜 s a (cellOf (entry 𝓜 s a b)))) ≡ true)
+  pub own-context : (a b : ℕ) → isLive (entry 𝓜 s a b) ≡ true
+      → (isVar (entryEnd 𝓜 s a (entry 𝓜 s a b)) || isVal (entryEnd 𝓜 s a (entry 𝓜 s a b))) ≡ true
+      → (entryNames (cellOf (entry 𝓜 s a b)) (entry 𝓜 s a b) ≡ true) × ((isVar (cell 𝓜 s a (cellOf (entry 𝓜 s a b))) || isVal (cell 𝓜 s a (cellOf (entry 𝓜 s a b)))) ≡ true)
   own-context a b live = go (entry 𝓜 s a b) live
     where
-      go : (x : Holding) → isLive x ≡ true → (isVar (entryEnd 𝓜 s a x) || isVal (entryEnd 𝓜 s a x)) ≡ true → (entryNames (cellOf x) x ≡ true) × ((isVar (cell 𝓜 s a (cellOf x)) || isVal (cell 𝓜 s a (cellOf x))) ≡ true)
+      go : (x : Holding) → isLive x ≡ true → (isVar (entryEnd 𝓜 s a x) || isVal (entryEnd 𝓜 s a x)) ≡ true
+          → (entryNames (cellOf x) x ≡ true) × ((isVar (cell 𝓜 s a (cellOf x)) || isVal (cell 𝓜 s a (cellOf x))) ≡ true)
       go Unused l t = absurd-bool l refl
       go (Live d n u) l t = (eq-eqb d d refl, sym (ap (λ (k : Kind). isVar k || isVal k) (own-end a d t)) ∙ t)
 
@@ -117,7 +120,8 @@ module _ (𝓜 : Machine) (s : Tables) (h : Move) (F : Facts 𝓜 s) (K : Keeps 
       place : LivePlace 𝓜 (next 𝓜 s h) (At o e)
       place = live-place 𝓜 (next 𝓜 s h) o e live′
 
-      steps : (w c : ℕ) (l : LeadsTo 𝓜 s (At o e) w c) → (ahead 𝓜 (next 𝓜 s h) (l .steps) (At o e) ≡ At w (l .number)) × (entryNames c (entry 𝓜 (next 𝓜 s h) w (l .number)) ≡ true)
+      steps : (w c : ℕ) (l : LeadsTo 𝓜 s (At o e) w c)
+          → (ahead 𝓜 (next 𝓜 s h) (l .steps) (At o e) ≡ At w (l .number)) × (entryNames c (entry 𝓜 (next 𝓜 s h) w (l .number)) ≡ true)
       steps w c l =
           let there = ahead-kept 𝓜 s h F K (l .steps) (At o e) w (l .number) place (l .there) in
           let alive = ahead-place 𝓜 (next 𝓜 s h) (facts-kept 𝓜 s h F K) (l .steps) (At o e) place w (l .number) there in
@@ -128,7 +132,8 @@ module _ (𝓜 : Machine) (s : Tables) (h : Move) (F : Facts 𝓜 s) (K : Keeps 
           (there, ap (entryNames c) (z .is) ∙ eq-eqb (z .cell) c same)
 
 -- whatever a call makes
-pub context-made : (𝓜 : Machine) (s t : Tables) → Facts 𝓜 s → Makes 𝓜 s t → (o e : ℕ) → isLive (entry 𝓜 s o e) ≡ true → isLive (entry 𝓜 t o e) ≡ true → KeepsContext 𝓜 s t o e
+pub context-made : (𝓜 : Machine) (s t : Tables) → Facts 𝓜 s → Makes 𝓜 s t → (o e : ℕ) → isLive (entry 𝓜 s o e) ≡ true → isLive (entry 𝓜 t o e) ≡ true
+    → KeepsContext 𝓜 s t o e
 context-made 𝓜 s t F (nothing) o e live live′ =
     let l = the-live (entry 𝓜 s o e) live in
     record {

@@ -76,7 +76,8 @@ module _ (𝓜 : Machine) (L : Laws 𝓜) (s : Tables) (z : Sized 𝓜 s) (r : �
           omega (arith, bit-le (isLive (entry 𝓜 s (j / 𝓜 .entries) (j % 𝓜 .entries))) (leb (r (j / 𝓜 .entries) (j % 𝓜 .entries)) ρ), ap (λ x. bit (isLive x)) here)
 
   -- the place of a live entry
-  standsAt-own : (a b ρ : ℕ) → isLive (entry 𝓜 s a b) ≡ true → (a * 𝓜 .entries + b < 𝓜 .workers * 𝓜 .entries) × (standsAt 𝓜 s r ρ (a * 𝓜 .entries + b) ≡ leb (r a b) ρ)
+  standsAt-own : (a b ρ : ℕ) → isLive (entry 𝓜 s a b) ≡ true
+      → (a * 𝓜 .entries + b < 𝓜 .workers * 𝓜 .entries) × (standsAt 𝓜 s r ρ (a * 𝓜 .entries + b) ≡ leb (r a b) ρ)
   standsAt-own a b ρ l =
       let inside = entry-inside 𝓜 s a b l in
       (digits-lt (inside .0) (inside .1), rw (digits-div a (inside .1), digits-mod a (inside .1), l))
@@ -111,7 +112,9 @@ module _ (𝓜 : Machine) (L : Laws 𝓜) (s : Tables) (F : Facts 𝓜 s) (r : �
       omega (arith, ap (λ (u : ℕ). standing 𝓜 s r (r u b)) p, ap (λ (u : ℕ). standing 𝓜 s r (r o u)) t)
   walk-low (suc n) a b o e l q = go (follow 𝓜 s (At a b)) refl (λ a′ b′. walk-low n a′ b′ o e)
     where
-      go : (p : Place) → follow 𝓜 s (At a b) ≡ p → ((a′ b′ : ℕ) → isLive (entry 𝓜 s a′ b′) ≡ true → ahead 𝓜 s n (At a′ b′) ≡ At o e → n + standing 𝓜 s r (r o e) ≤ standing 𝓜 s r (r a′ b′)) → suc n + standing 𝓜 s r (r o e) ≤ standing 𝓜 s r (r a b)
+      go : (p : Place) → follow 𝓜 s (At a b) ≡ p
+          → ((a′ b′ : ℕ) → isLive (entry 𝓜 s a′ b′) ≡ true → ahead 𝓜 s n (At a′ b′) ≡ At o e → n + standing 𝓜 s r (r o e) ≤ standing 𝓜 s r (r a′ b′))
+          → suc n + standing 𝓜 s r (r o e) ≤ standing 𝓜 s r (r a b)
       go Nowhere i rec = nowhere-at (sym (ahead-nowhere 𝓜 s n) ∙ sym (ap (ahead 𝓜 s n) i) ∙ q)
       go (At a′ b′) i rec =
           let live = follow-place 𝓜 s F (At a b) a′ b′ i in
@@ -122,7 +125,9 @@ module _ (𝓜 : Machine) (L : Laws 𝓜) (s : Tables) (F : Facts 𝓜 s) (r : �
   pub reads-within : Reads 𝓜 s → ReadsWithin 𝓜 s
   reads-within reads k =
       read-within 𝓜 s L (message s k)
-      (λ rd c o e q. let x : (n : ℕ) × ReadAhead 𝓜 s n (Read rd c o e) = subst (λ (m : Message). (n : ℕ) × ReadAhead 𝓜 s n m) q (reads k) in (x .0, from (x .0) rd c o e (namedBy (cell 𝓜 s rd c)) refl (x .1), x .1))
+      (λ rd c o e q.
+      let x : (n : ℕ) × ReadAhead 𝓜 s n (Read rd c o e) = subst (λ (m : Message). (n : ℕ) × ReadAhead 𝓜 s n m) q (reads k) in
+      (x .0, from (x .0) rd c o e (namedBy (cell 𝓜 s rd c)) refl (x .1), x .1))
     where
       from : (n rd c o e : ℕ) (p : Place) → namedBy (cell 𝓜 s rd c) ≡ p → ahead 𝓜 s n p ≡ At o e → n < 𝓜 .workers * 𝓜 .entries
       from n rd c o e Nowhere i q = nowhere-at (sym (ahead-nowhere 𝓜 s n) ∙ q)
@@ -180,7 +185,8 @@ module _ (𝓜 : Machine) (L : Laws 𝓜) (s : Tables) (F : Facts 𝓜 s) (r : �
   comes-within zero a b h l = absurd (omega (arith, standing-some 𝓜 L s (F .sized) r a b l))
   comes-within (suc fuel) a b h l = go (entry-end-is a b l) (λ a′ b′. comes-within fuel a′ b′)
     where
-      go : EndIs a (entryEnd 𝓜 s a (entry 𝓜 s a b)) → ((a′ b′ : ℕ) → standing 𝓜 s r (r a′ b′) ≤ fuel → isLive (entry 𝓜 s a′ b′) ≡ true → ComesToEnd a′ b′) → ComesToEnd a b
+      go : EndIs a (entryEnd 𝓜 s a (entry 𝓜 s a b))
+          → ((a′ b′ : ℕ) → standing 𝓜 s r (r a′ b′) ≤ fuel → isLive (entry 𝓜 s a′ b′) ≡ true → ComesToEnd a′ b′) → ComesToEnd a b
       go (plain t) rec = record { steps = 0; owner = a; number = b; few = standing-some 𝓜 L s (F .sized) r a b l; there = refl; end-plain = t }
       go (leads a′ b′ q) rec =
           let step = entry-leads a b a′ b′ l q in

@@ -60,7 +60,8 @@ module _ (𝓜 : Machine) (s : Tables) where
     pub held-live : (o e : ℕ) → 1 ≤ held 𝓜 s o e → isLive (entry 𝓜 s o e) ≡ true
     held-live o e h = weight-live (entry 𝓜 s o e) (omega (arith, weighed o e))
 
-    pub ex-live : ((w c : ℕ) → CellFact 𝓜 s w (cell 𝓜 s w c)) → (w c o e n : ℕ) (st : Status) (a : Bool) → cell 𝓜 s w c ≡ Ex o e n st a → isLive (entry 𝓜 s o e) ≡ true
+    pub ex-live : ((w c : ℕ) → CellFact 𝓜 s w (cell 𝓜 s w c)) → (w c o e n : ℕ) (st : Status) (a : Bool) → cell 𝓜 s w c ≡ Ex o e n st a
+        → isLive (entry 𝓜 s o e) ≡ true
     ex-live cells w c o e n st a x =
         let f : CellFact 𝓜 s w (Ex o e n st a) = rw x at (cells w c) in
         held-live o e (omega (arith, ex-held w c o e n st a x, f .2))
@@ -115,7 +116,8 @@ module _ (𝓜 : Machine) (s : Tables) (F : Facts 𝓜 s) where
 
   -- ---- the cell of a message that has one
   -- where as many messages have the test as a mark says, 1 or none, the mark is set if one has it
-  marked : (q : Message → Bool) (b : Bool) → q Empty ≡ false → total (λ x. bit (q (x .message))) (s .slots) ≡ bit b → (k : ℕ) → q (message s k) ≡ true → b ≡ true
+  marked : (q : Message → Bool) (b : Bool) → q Empty ≡ false → total (λ x. bit (q (x .message))) (s .slots) ≡ bit b → (k : ℕ) → q (message s k) ≡ true
+      → b ≡ true
   marked q b none one k h =
       bit-one b (omega (arith, message-total 𝓜 s (λ m. bit (q m)) (ap bit none) k, ap bit h, one))
 
@@ -158,7 +160,9 @@ module _ (𝓜 : Machine) (s : Tables) (L : Laws 𝓜) where
   some : 0 < 𝓜 .workers * 𝓜 .entries
   some = mul-pos (L .workers-some) (L .entries-some)
 
-  pub read-within : (m : Message) → ((r c o e : ℕ) → m ≡ Read r c o e → (n : ℕ) × (n < 𝓜 .workers * 𝓜 .entries) × (ahead 𝓜 s n (namedBy (cell 𝓜 s r c)) ≡ At o e)) → (n : ℕ) × (n < 𝓜 .workers * 𝓜 .entries) × ReadAhead 𝓜 s n m
+  pub read-within : (m : Message)
+      → ((r c o e : ℕ) → m ≡ Read r c o e → (n : ℕ) × (n < 𝓜 .workers * 𝓜 .entries) × (ahead 𝓜 s n (namedBy (cell 𝓜 s r c)) ≡ At o e))
+      → (n : ℕ) × (n < 𝓜 .workers * 𝓜 .entries) × ReadAhead 𝓜 s n m
   read-within Empty read = (0, some, tt)
   read-within (Reference to o e n) read = (0, some, tt)
   read-within (Release o e n) read = (0, some, tt)

@@ -47,7 +47,8 @@ module _ (𝓜 : Machine) (L : Laws 𝓜) (s : Tables) (F : Facts 𝓜 s) (o e :
       ap (λ (y : Holding). ltb o′ o && not (isTainted y)) (entry-stored 𝓜 s h (F .sized) P .there o′ e′ (λ p q. f .1 (sym p))) ∙ t
 
   -- what an entry must have, from what holds before
-  pub entry-next : (d n : ℕ) (t : Bool) → n ≤ 𝓜 .ceiling → 1 ≤ n → isFree (cell 𝓜 s o d) ≡ false → (t ≡ false → varValOrSafe 𝓜 s o (endKind 𝓜 s o d) ≡ true) → EntryFact 𝓜 (next 𝓜 s (entryMove 𝓜 s o e x₀ x i m₀ m)) o (Live d n t)
+  pub entry-next : (d n : ℕ) (t : Bool) → n ≤ 𝓜 .ceiling → 1 ≤ n → isFree (cell 𝓜 s o d) ≡ false
+      → (t ≡ false → varValOrSafe 𝓜 s o (endKind 𝓜 s o d) ≡ true) → EntryFact 𝓜 (next 𝓜 s (entryMove 𝓜 s o e x₀ x i m₀ m)) o (Live d n t)
   unfolding endKind
   entry-next d n t a b nf good = (
     a,

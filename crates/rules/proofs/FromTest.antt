@@ -37,7 +37,8 @@ in-use true r h = refl
 in-use false r h = h
 
 -- a walk that meets a place is ahead of where it starts
-pub walk-ahead : (𝓜 : Machine) (s : Tables) (o e n : ℕ) (p : Place) → walkMeets (isAt o e) (follow 𝓜 s) n p ≡ true → (k : ℕ) × (k < n) × (ahead 𝓜 s k p ≡ At o e)
+pub walk-ahead : (𝓜 : Machine) (s : Tables) (o e n : ℕ) (p : Place) → walkMeets (isAt o e) (follow 𝓜 s) n p ≡ true
+    → (k : ℕ) × (k < n) × (ahead 𝓜 s k p ≡ At o e)
 unfolding walkMeets ahead
 walk-ahead 𝓜 s o e zero p h = absurd-bool h refl
 walk-ahead 𝓜 s o e (suc n) p h = go (isAt o e p) refl h (walk-ahead 𝓜 s o e n (follow 𝓜 s p))
@@ -48,7 +49,9 @@ walk-ahead 𝓜 s o e (suc n) p h = go (isAt o e p) refl h (walk-ahead 𝓜 s o 
         let q = both-eq o′ o e′ e t in
         rw (q .0, q .1)
 
-    go : (b : Bool) → isAt o e p ≡ b → cond b true (walkMeets (isAt o e) (follow 𝓜 s) n (follow 𝓜 s p)) ≡ true → (walkMeets (isAt o e) (follow 𝓜 s) n (follow 𝓜 s p) ≡ true → (k : ℕ) × (k < n) × (ahead 𝓜 s k (follow 𝓜 s p) ≡ At o e)) → (k : ℕ) × (k < suc n) × (ahead 𝓜 s k p ≡ At o e)
+    go : (b : Bool) → isAt o e p ≡ b → cond b true (walkMeets (isAt o e) (follow 𝓜 s) n (follow 𝓜 s p)) ≡ true
+        → (walkMeets (isAt o e) (follow 𝓜 s) n (follow 𝓜 s p) ≡ true → (k : ℕ) × (k < n) × (ahead 𝓜 s k (follow 𝓜 s p) ≡ At o e))
+        → (k : ℕ) × (k < suc n) × (ahead 𝓜 s k p ≡ At o e)
     go true t m later = (0, omega arith, at p t)
     go false t m later =
         let r = later m in
@@ -118,7 +121,8 @@ module _ (𝓜 : Machine) (L : Laws 𝓜) (s : Tables) (z : Sized 𝓜 s) (h : s
   weighs = each-entry-at 𝓜 s L z (entryWeighs 𝓜 s) (λ o e. refl) (and-l (point5 𝓜 s) (point6 𝓜 s) p5-6)
 
   -- ---- cells
-  ex-parts : (w c o e n : ℕ) (st : Status) (a : Bool) → cellNames 𝓜 s w c (Ex o e n st a) ≡ true → (not (eqb o w) ≡ true) × (isLive (entry 𝓜 s o e) ≡ true) × (leb 1 n ≡ true) × (leb (exesNaming 𝓜 s w o e) 1 ≡ true)
+  ex-parts : (w c o e n : ℕ) (st : Status) (a : Bool) → cellNames 𝓜 s w c (Ex o e n st a) ≡ true
+      → (not (eqb o w) ≡ true) × (isLive (entry 𝓜 s o e) ≡ true) × (leb 1 n ≡ true) × (leb (exesNaming 𝓜 s w o e) 1 ≡ true)
   ex-parts w c o e n st a = and-4 (not (eqb o w)) (isLive (entry 𝓜 s o e)) (leb 1 n) (leb (exesNaming 𝓜 s w o e) 1)
 
   cell-fact : (w c : ℕ) (k : Kind) → cellInRange 𝓜 s w c k ≡ true → cellNames 𝓜 s w c k ≡ true → CellFact 𝓜 s w k
@@ -234,7 +238,8 @@ module _ (𝓜 : Machine) (L : Laws 𝓜) (s : Tables) (z : Sized 𝓜 s) (h : s
       )
 
   -- as many messages have the test as the mark says, 1 or none
-  one-or-none : (q : Message → Bool) (b : Bool) → (b ≡ true → total (λ x. bit (q (x .message))) (s .slots) ≡ 1) → ((k : ℕ) → q (message s k) ≡ true → b ≡ true) → total (λ x. bit (q (x .message))) (s .slots) ≡ bit b
+  one-or-none : (q : Message → Bool) (b : Bool) → (b ≡ true → total (λ x. bit (q (x .message))) (s .slots) ≡ 1)
+      → ((k : ℕ) → q (message s k) ≡ true → b ≡ true) → total (λ x. bit (q (x .message))) (s .slots) ≡ bit b
   one-or-none q true one its = one refl
   one-or-none q false one its = none-of q (λ k. not-yes (λ u. absurd-bool (its k u) refl))
 

@@ -38,11 +38,13 @@ chosen P W C w c x d out inn = go (ltb w W) (ltb c C) refl refl
 
 module _ (𝓜 : Machine) (s : Tables) where
   -- what holds of a free cell, and of each cell of the list, holds of every cell
-  pub cells-all : (P : ℕ → ℕ → Kind → Type 0) → ((w c : ℕ) → P w c Free) → ((w c : ℕ) → w < 𝓜 .workers → c < 𝓜 .cells → P w c (kindAt (s .cells) (w * 𝓜 .cells + c))) → (w c : ℕ) → P w c (cell 𝓜 s w c)
+  pub cells-all : (P : ℕ → ℕ → Kind → Type 0) → ((w c : ℕ) → P w c Free)
+      → ((w c : ℕ) → w < 𝓜 .workers → c < 𝓜 .cells → P w c (kindAt (s .cells) (w * 𝓜 .cells + c))) → (w c : ℕ) → P w c (cell 𝓜 s w c)
   unfolding cell
   cells-all P out inn w c = chosen (P w c) (𝓜 .workers) (𝓜 .cells) w c (kindAt (s .cells) (w * 𝓜 .cells + c)) Free (out w c) (inn w c)
 
-  pub entries-all : (P : ℕ → ℕ → Holding → Type 0) → ((w e : ℕ) → P w e Unused) → ((w e : ℕ) → w < 𝓜 .workers → e < 𝓜 .entries → P w e (holdingAt (s .entries) (w * 𝓜 .entries + e))) → (w e : ℕ) → P w e (entry 𝓜 s w e)
+  pub entries-all : (P : ℕ → ℕ → Holding → Type 0) → ((w e : ℕ) → P w e Unused)
+      → ((w e : ℕ) → w < 𝓜 .workers → e < 𝓜 .entries → P w e (holdingAt (s .entries) (w * 𝓜 .entries + e))) → (w e : ℕ) → P w e (entry 𝓜 s w e)
   unfolding entry
   entries-all P out inn w e =
       chosen (P w e) (𝓜 .workers) (𝓜 .entries) w e (holdingAt (s .entries) (w * 𝓜 .entries + e)) Unused (out w e) (inn w e)
@@ -81,7 +83,10 @@ module _ (𝓜 : Machine) (s : Tables) where
     pub flat-none : (f : Kind → ℕ) → ((w c : ℕ) → f (cell 𝓜 s w c) ≡ 0) → total (λ x. f (x .kind)) (s .cells) ≡ 0
     flat-none f h =
         total-none (λ (x : Cell). f (x .kind)) (s .cells) (record { kind = Free })
-        (λ k l. let long = z .cells-long in let row : k / 𝓜 .cells < 𝓜 .workers = div-lt-iff-lt-mul (L .cells-some) .1 (omega arith) in rw (cell-in 𝓜 s (k / 𝓜 .cells) (k % 𝓜 .cells) row (mod-lt k (L .cells-some)), div-add-mod' k (𝓜 .cells)) at (h (k / 𝓜 .cells) (k % 𝓜 .cells)))
+        (λ k l.
+        let long = z .cells-long in
+        let row : k / 𝓜 .cells < 𝓜 .workers = div-lt-iff-lt-mul (L .cells-some) .1 (omega arith) in
+        rw (cell-in 𝓜 s (k / 𝓜 .cells) (k % 𝓜 .cells) row (mod-lt k (L .cells-some)), div-add-mod' k (𝓜 .cells)) at (h (k / 𝓜 .cells) (k % 𝓜 .cells)))
 
     pub each-entry-at : (q : ℕ → ℕ → Holding → Bool) → ((w e : ℕ) → q w e Unused ≡ true) → eachEntry 𝓜 s q ≡ true → (w e : ℕ) → q w e (entry 𝓜 s w e) ≡ true
     each-entry-at q out h =

@@ -106,7 +106,8 @@ module _ (𝓜 : Machine) (s : Tables) (h : Move) (F : Facts 𝓜 s) (K : Keeps 
   referred-shown v d y q t = shown-kept v y (busy-referred 𝓜 s v y (referred-by 𝓜 s v y d q)) (ex-not-var (λ o e n st a. true) (cell 𝓜 s v y) t)
 
   -- an EX that looks the same names the same entry
-  pub ex-after : (v d o e n : ℕ) (st : Status) (a : Bool) → cell 𝓜 s v d ≡ Ex o e n st a → shown (cell 𝓜 (next 𝓜 s h) v d) ≡ shown (cell 𝓜 s v d) → ExOf o e (cell 𝓜 (next 𝓜 s h) v d)
+  pub ex-after : (v d o e n : ℕ) (st : Status) (a : Bool) → cell 𝓜 s v d ≡ Ex o e n st a → shown (cell 𝓜 (next 𝓜 s h) v d) ≡ shown (cell 𝓜 s v d)
+      → ExOf o e (cell 𝓜 (next 𝓜 s h) v d)
   ex-after v d o e n st a q same =
       the-ex-of o e (cell 𝓜 (next 𝓜 s h) v d)
       (shown-name false (λ owner entr. eqb owner o && eqb entr e) (cell 𝓜 (next 𝓜 s h) v d) (cell 𝓜 s v d) same ∙ ap (exNames o e) q ∙ eq-both o e)
@@ -128,7 +129,8 @@ module _ (𝓜 : Machine) (s : Tables) (h : Move) (F : Facts 𝓜 s) (K : Keeps 
   unfolding s′
   holds-new a b = go (K .holds-ok)
     where
-      go : (h .m ≡ h .m₀) ⊎ ((a b : ℕ) → messageHolds 𝓜 s′ a b (h .m) ≡ messageHolds 𝓜 s a b (h .m)) → messageHolds 𝓜 s′ a b (h .m) ≡ messageHolds 𝓜 s a b (h .m)
+      go : (h .m ≡ h .m₀) ⊎ ((a b : ℕ) → messageHolds 𝓜 s′ a b (h .m) ≡ messageHolds 𝓜 s a b (h .m))
+          → messageHolds 𝓜 s′ a b (h .m) ≡ messageHolds 𝓜 s a b (h .m)
       go (inl e) = holds-same a b (h .i) (h .m) (K .placed .old-message ∙ sym e)
       go (inr f) = f a b
 
@@ -166,7 +168,8 @@ module _ (𝓜 : Machine) (s : Tables) (h : Move) (F : Facts 𝓜 s) (K : Keeps 
 
   -- ---- entries
   -- an entry that is live before and after keeps its cell and its taint
-  pub live-kept : (a b : ℕ) → isLive (entry 𝓜 s a b) ≡ true → isLive (entry 𝓜 (next 𝓜 s h) a b) ≡ true → (cellOf (entry 𝓜 (next 𝓜 s h) a b) ≡ cellOf (entry 𝓜 s a b)) × (isTainted (entry 𝓜 (next 𝓜 s h) a b) ≡ isTainted (entry 𝓜 s a b))
+  pub live-kept : (a b : ℕ) → isLive (entry 𝓜 s a b) ≡ true → isLive (entry 𝓜 (next 𝓜 s h) a b) ≡ true
+      → (cellOf (entry 𝓜 (next 𝓜 s h) a b) ≡ cellOf (entry 𝓜 s a b)) × (isTainted (entry 𝓜 (next 𝓜 s h) a b) ≡ isTainted (entry 𝓜 s a b))
   live-kept =
       stored-each entries-changed (λ a b x y. isLive x ≡ true → isLive y ≡ true → (cellOf y ≡ cellOf x) × (isTainted y ≡ isTainted x)) (K .entry-kept)
       (λ a b f l l′. (refl, refl))
@@ -230,11 +233,13 @@ module _ (𝓜 : Machine) (s : Tables) (h : Move) (F : Facts 𝓜 s) (K : Keeps 
       )
 
   -- an exported cell is not freed, and an end that was a VAR, a VAL or a safe EX is one
-  good-kept : (v d : ℕ) → exported 𝓜 s v d ≡ true → isFree (cell 𝓜 s v d) ≡ false → (isFree (cell 𝓜 s′ v d) ≡ false) × (varValOrSafe 𝓜 s v (endKind 𝓜 s v d) ≡ true → varValOrSafe 𝓜 s′ v (endKind 𝓜 s′ v d) ≡ true)
+  good-kept : (v d : ℕ) → exported 𝓜 s v d ≡ true → isFree (cell 𝓜 s v d) ≡ false
+      → (isFree (cell 𝓜 s′ v d) ≡ false) × (varValOrSafe 𝓜 s v (endKind 𝓜 s v d) ≡ true → varValOrSafe 𝓜 s′ v (endKind 𝓜 s′ v d) ≡ true)
   unfolding s′
   good-kept v d x nf = go (cell 𝓜 s v d) refl nf
     where
-      go : (k : Kind) → cell 𝓜 s v d ≡ k → isFree k ≡ false → (isFree (cell 𝓜 s′ v d) ≡ false) × (varValOrSafe 𝓜 s v (endKind 𝓜 s v d) ≡ true → varValOrSafe 𝓜 s′ v (endKind 𝓜 s′ v d) ≡ true)
+      go : (k : Kind) → cell 𝓜 s v d ≡ k → isFree k ≡ false
+          → (isFree (cell 𝓜 s′ v d) ≡ false) × (varValOrSafe 𝓜 s v (endKind 𝓜 s v d) ≡ true → varValOrSafe 𝓜 s′ v (endKind 𝓜 s′ v d) ≡ true)
       go Free q t = absurd-bool refl t
       go Var q t =
           let r = var-good v d x q in

@@ -59,7 +59,8 @@ module _ (𝓜 : Machine) (L : Laws 𝓜) (s : Tables) (F : Facts 𝓜 s) where
   worker-used w h = (leb-false (s .p) w h, omega (arith, leb-false (s .p) w h, F .p-le))
 
   -- ---- new
-  new-moves : (w c : ℕ) → w < s .p → booked s w < freeCells 𝓜 s w → c < 𝓜 .cells → cell 𝓜 s w c ≡ Free → CellMoves 𝓜 L s w c Free Var 0 (message s 0) (message s 0)
+  new-moves : (w c : ℕ) → w < s .p → booked s w < freeCells 𝓜 s w → c < 𝓜 .cells → cell 𝓜 s w c ≡ Free
+      → CellMoves 𝓜 L s w c Free Var 0 (message s 0) (message s 0)
   new-moves w c u r l q =
       record {
         w-in = omega (arith, F .p-le);
@@ -79,7 +80,8 @@ module _ (𝓜 : Machine) (L : Laws 𝓜) (s : Tables) (F : Facts 𝓜 s) where
         room = λ v. go v (eqb w v) refl;
       }
     where
-      go : (v : ℕ) (t : Bool) → eqb w v ≡ t → booked s v + bit (goesTo v (message s 0)) + cond t 1 0 ≤ freeCells 𝓜 s v + bit (goesTo v (message s 0)) + cond t 0 0
+      go : (v : ℕ) (t : Bool) → eqb w v ≡ t
+          → booked s v + bit (goesTo v (message s 0)) + cond t 1 0 ≤ freeCells 𝓜 s v + bit (goesTo v (message s 0)) + cond t 0 0
       go v true t =
           let e = eqb-true w v t in
           subst (λ (y : ℕ). booked s y + bit (goesTo y (message s 0)) + 1 ≤ freeCells 𝓜 s y + bit (goesTo y (message s 0)) + 0) e (omega arith)
@@ -90,10 +92,15 @@ module _ (𝓜 : Machine) (L : Laws 𝓜) (s : Tables) (F : Facts 𝓜 s) where
   new-makes w =
       let c = lowestFreeCell 𝓜 s w in
       after-checked (Makes 𝓜 s) s (newRefusals 𝓜 s w) (record { outcome = Done c; after = putCell 𝓜 s w c Var }) nothing
-      (λ p. let u = worker-used w (search) in let r = has-room 𝓜 L s F w (search) in let f = free-cell 𝓜 L s F w (omega arith) in makes-cell 𝓜 L s F w c Free Var (new-moves w c (u .0) r (f .0) (f .1)) (record { read-ok = inl refl; answer-ok = inl refl; known-ok = inr tt }))
+      (λ p.
+      let u = worker-used w (search) in
+      let r = has-room 𝓜 L s F w (search) in
+      let f = free-cell 𝓜 L s F w (omega arith) in
+      makes-cell 𝓜 L s F w c Free Var (new-moves w c (u .0) r (f .0) (f .1)) (record { read-ok = inl refl; answer-ok = inl refl; known-ok = inr tt }))
 
   -- ---- set and bind: a VAR gets its value, or becomes a REF
-  var-moves : (w c : ℕ) (k : Kind) → cell 𝓜 s w c ≡ Var → CellFact 𝓜 (next 𝓜 s (cellMove 𝓜 s w c Var k 0 (message s 0) (message s 0))) w k → (exported 𝓜 s w c ≡ true → VarBecomes 𝓜 s w k) → isEx k ≡ false → isFree k ≡ false → CellMoves 𝓜 L s w c Var k 0 (message s 0) (message s 0)
+  var-moves : (w c : ℕ) (k : Kind) → cell 𝓜 s w c ≡ Var → CellFact 𝓜 (next 𝓜 s (cellMove 𝓜 s w c Var k 0 (message s 0) (message s 0))) w k
+      → (exported 𝓜 s w c ≡ true → VarBecomes 𝓜 s w k) → isEx k ≡ false → isFree k ≡ false → CellMoves 𝓜 L s w c Var k 0 (message s 0) (message s 0)
   var-moves w c k q ok becomes ne nf =
       let inside = cell-inside 𝓜 s w c (ap isFree q) in
       record {
@@ -114,7 +121,8 @@ module _ (𝓜 : Machine) (L : Laws 𝓜) (s : Tables) (F : Facts 𝓜 s) where
         room = λ v. let e = ap bit nf in zeroes v (eqb w v) (bit (isFree k)) e;
       }
     where
-      zeroes : (v : ℕ) (t : Bool) (n : ℕ) → n ≡ 0 → booked s v + bit (goesTo v (message s 0)) + cond t 0 0 ≤ freeCells 𝓜 s v + bit (goesTo v (message s 0)) + cond t n 0
+      zeroes : (v : ℕ) (t : Bool) (n : ℕ) → n ≡ 0
+          → booked s v + bit (goesTo v (message s 0)) + cond t 0 0 ≤ freeCells 𝓜 s v + bit (goesTo v (message s 0)) + cond t n 0
       zeroes v true n e = omega (arith, F .room v)
       zeroes v false n e = omega (arith, F .room v)
 
@@ -122,21 +130,30 @@ module _ (𝓜 : Machine) (L : Laws 𝓜) (s : Tables) (F : Facts 𝓜 s) where
   unfolding set
   set-makes w c n =
       after-checked (Makes 𝓜 s) s (setRefusals 𝓜 s w c) (record { outcome = Done 0; after = putCell 𝓜 s w c (Val n) }) nothing
-      (λ p. let u = worker-used w (search) in let q = var-is (cell 𝓜 s w c) (not-false (search)) in makes-cell 𝓜 L s F w c Var (Val n) (var-moves w c (Val n) q (u .0) (λ x. stays refl) refl refl) (record { read-ok = inl refl; answer-ok = inl refl; known-ok = inr tt }))
+      (λ p.
+      let u = worker-used w (search) in
+      let q = var-is (cell 𝓜 s w c) (not-false (search)) in
+      makes-cell 𝓜 L s F w c Var (Val n) (var-moves w c (Val n) q (u .0) (λ x. stays refl) refl refl) (record { read-ok = inl refl; answer-ok = inl refl; known-ok = inr tt }))
 
   pub bind-makes : (w c x : ℕ) → Makes 𝓜 s (bind 𝓜 s w c x .after)
   unfolding bind endKind
   bind-makes w c x =
       let y = end 𝓜 s w x in
       after-checked (Makes 𝓜 s) s (bindRefusals 𝓜 s w c x) (record { outcome = Done 0; after = putCell 𝓜 s w c (Ref y) }) nothing
-      (λ p. let u = worker-used w (search) in let q = var-is (cell 𝓜 s w c) (not-false (search)) in let ex : isEx (cell 𝓜 s w y) ≡ true = not-false (search) in let guarded : (exported 𝓜 s w c && not (safe 𝓜 s w (cell 𝓜 s w y))) ≡ false = search in makes-cell 𝓜 L s F w c Var (Ref y) (var-moves w c (Ref y) q (u .0, ref-ex q ex) (λ e. bound y refl (safe-of (exported 𝓜 s w c) (safe 𝓜 s w (cell 𝓜 s w y)) e guarded)) refl refl) (record { read-ok = inl refl; answer-ok = inl refl; known-ok = inr tt }))
+      (λ p.
+      let u = worker-used w (search) in
+      let q = var-is (cell 𝓜 s w c) (not-false (search)) in
+      let ex : isEx (cell 𝓜 s w y) ≡ true = not-false (search) in
+      let guarded : (exported 𝓜 s w c && not (safe 𝓜 s w (cell 𝓜 s w y))) ≡ false = search in
+      makes-cell 𝓜 L s F w c Var (Ref y) (var-moves w c (Ref y) q (u .0, ref-ex q ex) (λ e. bound y refl (safe-of (exported 𝓜 s w c) (safe 𝓜 s w (cell 𝓜 s w y)) e guarded)) refl refl) (record { read-ok = inl refl; answer-ok = inl refl; known-ok = inr tt }))
     where
       safe-of : (a b : Bool) → a ≡ true → (a && not b) ≡ false → b ≡ true
       safe-of true true e g = refl
       safe-of true false e g = absurd-bool refl g
       safe-of false b e g = absurd-bool e refl
 
-      ref-ex : cell 𝓜 s w c ≡ Var → isEx (cell 𝓜 s w (end 𝓜 s w x)) ≡ true → isEx (cell 𝓜 (next 𝓜 s (cellMove 𝓜 s w c Var (Ref (end 𝓜 s w x)) 0 (message s 0) (message s 0))) w (end 𝓜 s w x)) ≡ true
+      ref-ex : cell 𝓜 s w c ≡ Var → isEx (cell 𝓜 s w (end 𝓜 s w x)) ≡ true
+          → isEx (cell 𝓜 (next 𝓜 s (cellMove 𝓜 s w c Var (Ref (end 𝓜 s w x)) 0 (message s 0) (message s 0))) w (end 𝓜 s w x)) ≡ true
       ref-ex q ex =
           let inside = cell-inside 𝓜 s w c (ap isFree q) in
           let placed : Placed 𝓜 s (cellMove 𝓜 s w c Var (Ref (end 𝓜 s w x)) 0 (message s 0) (message s 0)) = record { w-in = inside .0; c-in = inside .1; o-in = L .workers-some; e-in = L .entries-some; i-in = L .slots-some; old-cell = q; old-entry = refl; old-message = refl } in
@@ -182,7 +199,8 @@ module _ (𝓜 : Machine) (L : Laws 𝓜) (s : Tables) (F : Facts 𝓜 s) where
       }
 
   -- nothing is sent
-  frees-only : (w c : ℕ) (k₀ : Kind) → cell 𝓜 s w c ≡ k₀ → isFree k₀ ≡ false → busy 𝓜 s w c ≡ false → ((a b : ℕ) → cellHolds 𝓜 s a b k₀ ≡ 0) → Makes 𝓜 s (putCell 𝓜 s w c Free)
+  frees-only : (w c : ℕ) (k₀ : Kind) → cell 𝓜 s w c ≡ k₀ → isFree k₀ ≡ false → busy 𝓜 s w c ≡ false → ((a b : ℕ) → cellHolds 𝓜 s a b k₀ ≡ 0)
+      → Makes 𝓜 s (putCell 𝓜 s w c Free)
   frees-only w c k₀ q nf idle light =
       makes-cell 𝓜 L s F w c k₀ Free
       (frees w c k₀ 0 (message s 0) (message s 0)
@@ -202,7 +220,9 @@ module _ (𝓜 : Machine) (L : Laws 𝓜) (s : Tables) (F : Facts 𝓜 s) where
       (record { read-ok = inl refl; answer-ok = inl refl; known-ok = inr tt })
 
   -- an EX's whole weight goes into an empty slot, as a Reference or as a Release
-  frees-sent : (w c o e n : ℕ) (st : Status) (a : Bool) (m : Message) → cell 𝓜 s w c ≡ Ex o e n st a → busy 𝓜 s w c ≡ false → leb (𝓜 .slots) (lowestEmptySlot 𝓜 s) ≡ false → Sends 𝓜 s o e n m → ((v : ℕ) → booked s v + bit (goesTo v m) ≤ freeCells 𝓜 s v + 0) → Makes 𝓜 s (putMessage (putCell 𝓜 s w c Free) (lowestEmptySlot 𝓜 s) m)
+  frees-sent : (w c o e n : ℕ) (st : Status) (a : Bool) (m : Message) → cell 𝓜 s w c ≡ Ex o e n st a → busy 𝓜 s w c ≡ false
+      → leb (𝓜 .slots) (lowestEmptySlot 𝓜 s) ≡ false → Sends 𝓜 s o e n m → ((v : ℕ) → booked s v + bit (goesTo v m) ≤ freeCells 𝓜 s v + 0)
+      → Makes 𝓜 s (putMessage (putCell 𝓜 s w c Free) (lowestEmptySlot 𝓜 s) m)
   frees-sent w c o e n st a m q idle full z room =
       let slot = empty-slot 𝓜 L s F full in
       makes-cell-message 𝓜 L s F w c (Ex o e n st a) Free (lowestEmptySlot 𝓜 s) Empty m
@@ -227,7 +247,11 @@ module _ (𝓜 : Machine) (L : Laws 𝓜) (s : Tables) (F : Facts 𝓜 s) where
   unfolding transfer
   transfer-makes w c to =
       after-checked (Makes 𝓜 s) s (transferRefusals 𝓜 s w c to) (record { outcome = Done (lowestEmptySlot 𝓜 s); after = putMessage (putCell 𝓜 s w c Free) (lowestEmptySlot 𝓜 s) (sendsWhole to (cell 𝓜 s w c)) }) nothing
-      (λ p. let u = worker-used to (search) in let x = the-ex (cell 𝓜 s w c) (not-false (search)) in let r = has-room 𝓜 L s F to (search) in subst (λ (k : Kind). Makes 𝓜 s (putMessage (putCell 𝓜 s w c Free) (lowestEmptySlot 𝓜 s) (sendsWhole to k))) (sym (x .is)) (frees-sent w c (x .owner) (x .entry) (x .weight) (x .status) (x .asking) (Reference to (x .owner) (x .entry) (x .weight)) (x .is) (search) (search) (reference-sends to (x .owner) (x .entry) (x .weight) (u .0) (weight-some w c (x .owner) (x .entry) (x .weight) (x .status) (x .asking) (x .is))) (room-sent 𝓜 L s F to (x .owner) (x .entry) (x .weight) r)))
+      (λ p.
+      let u = worker-used to (search) in
+      let x = the-ex (cell 𝓜 s w c) (not-false (search)) in
+      let r = has-room 𝓜 L s F to (search) in
+      subst (λ (k : Kind). Makes 𝓜 s (putMessage (putCell 𝓜 s w c Free) (lowestEmptySlot 𝓜 s) (sendsWhole to k))) (sym (x .is)) (frees-sent w c (x .owner) (x .entry) (x .weight) (x .status) (x .asking) (Reference to (x .owner) (x .entry) (x .weight)) (x .is) (search) (search) (reference-sends to (x .owner) (x .entry) (x .weight) (u .0) (weight-some w c (x .owner) (x .entry) (x .weight) (x .status) (x .asking) (x .is))) (room-sent 𝓜 L s F to (x .owner) (x .entry) (x .weight) r)))
 
   -- "drop"
   pub drop-makes : (w c : ℕ) → Makes 𝓜 s (drop 𝓜 s w c .after)
@@ -241,7 +265,8 @@ module _ (𝓜 : Machine) (L : Laws 𝓜) (s : Tables) (F : Facts 𝓜 s) where
           cond (isEx k) (record { outcome = Done (lowestEmptySlot 𝓜 s); after = putMessage (putCell 𝓜 s w c Free) (lowestEmptySlot 𝓜 s) (releases k) })
           (record { outcome = Done 64; after = putCell 𝓜 s w c Free })
 
-      go : (k : Kind) → cell 𝓜 s w c ≡ k → isFree (cell 𝓜 s w c) ≡ false → busy 𝓜 s w c ≡ false → (isEx (cell 𝓜 s w c) && leb (𝓜 .slots) (lowestEmptySlot 𝓜 s)) ≡ false → Makes 𝓜 s (dropped k .after)
+      go : (k : Kind) → cell 𝓜 s w c ≡ k → isFree (cell 𝓜 s w c) ≡ false → busy 𝓜 s w c ≡ false
+          → (isEx (cell 𝓜 s w c) && leb (𝓜 .slots) (lowestEmptySlot 𝓜 s)) ≡ false → Makes 𝓜 s (dropped k .after)
       go Free q nf idle full = absurd-bool (ap isFree q) nf
       go Var q nf idle full = frees-only w c Var q refl idle (λ a b. refl)
       go (Val n) q nf idle full = frees-only w c (Val n) q refl idle (λ a b. refl)

@@ -120,7 +120,8 @@ module _ (𝓜 : Machine) (L : Laws 𝓜) (s : Tables) (I : Invariant 𝓜 s) (r
       sum-mono (𝓜 .workers * 𝓜 .entries) (λ j. bit (standsAt 𝓜 (next 𝓜 s h) r ρ j)) (λ j. bit (standsAt 𝓜 s r ρ j))
       (λ j l. le (isLive (entry 𝓜 (next 𝓜 s h) (j / 𝓜 .entries) (j % 𝓜 .entries))) (isLive (entry 𝓜 s (j / 𝓜 .entries) (j % 𝓜 .entries))) (leb (r (j / 𝓜 .entries) (j % 𝓜 .entries)) ρ) (λ t. was (j / 𝓜 .entries) (j % 𝓜 .entries) t (was-or-new 𝓜 s h (I .facts) K r R (j / 𝓜 .entries) (j % 𝓜 .entries) t)))
     where
-      was : (a b : ℕ) → isLive (entry 𝓜 (next 𝓜 s h) a b) ≡ true → (isLive (entry 𝓜 s a b) ≡ true) ⊎ ((h .o ≡ a) × (h .e ≡ b) × (isLive (h .x₀) ≡ false)) → isLive (entry 𝓜 s a b) ≡ true
+      was : (a b : ℕ) → isLive (entry 𝓜 (next 𝓜 s h) a b) ≡ true
+          → (isLive (entry 𝓜 s a b) ≡ true) ⊎ ((h .o ≡ a) × (h .e ≡ b) × (isLive (h .x₀) ≡ false)) → isLive (entry 𝓜 s a b) ≡ true
       was a b t (inl l) = l
       was a b t (inr q) =
           let same = ap₂ (entry 𝓜 (next 𝓜 s h)) (sym (q .0)) (sym (q .1)) ∙ entry-stored 𝓜 s h (I .facts .sized) (K .placed) .here in
@@ -131,7 +132,8 @@ module _ (𝓜 : Machine) (L : Laws 𝓜) (s : Tables) (I : Invariant 𝓜 s) (r
       le false b c f = omega arith
 
   -- a change whose message takes less than the one before it
-  pub arrived : (h : Move) → (K : Keeps 𝓜 s h) → Carries 𝓜 s h → (isLive (h .x) ≡ true → isLive (h .x₀) ≡ true) → spends 𝓜 (next 𝓜 s h) r (h .m) < spends 𝓜 (next 𝓜 s h) r (h .m₀) → KindOn (h .k₀) (h .k) → Arrived 𝓜 s r (next 𝓜 s h)
+  pub arrived : (h : Move) → (K : Keeps 𝓜 s h) → Carries 𝓜 s h → (isLive (h .x) ≡ true → isLive (h .x₀) ≡ true)
+      → spends 𝓜 (next 𝓜 s h) r (h .m) < spends 𝓜 (next 𝓜 s h) r (h .m₀) → KindOn (h .k₀) (h .k) → Arrived 𝓜 s r (next 𝓜 s h)
   unfolding measure
   arrived h K C old less on =
       record {
@@ -158,18 +160,26 @@ module _ (𝓜 : Machine) (L : Laws 𝓜) (s : Tables) (I : Invariant 𝓜 s) (r
       le (Supply a c w) = omega arith
 
   -- ---- over the rules' stores
-  pub arrived-cell : (w c : ℕ) (k₀ k : Kind) (i : ℕ) (m₀ m : Message) → CellMoves 𝓜 L s w c k₀ k i m₀ m → Carries 𝓜 s (cellMove 𝓜 s w c k₀ k i m₀ m) → spends 𝓜 (next 𝓜 s (cellMove 𝓜 s w c k₀ k i m₀ m)) r m < spends 𝓜 (next 𝓜 s (cellMove 𝓜 s w c k₀ k i m₀ m)) r m₀ → KindOn k₀ k → Arrived 𝓜 s r (putMessage (putCell 𝓜 s w c k) i m)
+  pub arrived-cell : (w c : ℕ) (k₀ k : Kind) (i : ℕ) (m₀ m : Message) → CellMoves 𝓜 L s w c k₀ k i m₀ m → Carries 𝓜 s (cellMove 𝓜 s w c k₀ k i m₀ m)
+      → spends 𝓜 (next 𝓜 s (cellMove 𝓜 s w c k₀ k i m₀ m)) r m < spends 𝓜 (next 𝓜 s (cellMove 𝓜 s w c k₀ k i m₀ m)) r m₀ → KindOn k₀ k
+      → Arrived 𝓜 s r (putMessage (putCell 𝓜 s w c k) i m)
   arrived-cell w c k₀ k i m₀ m M C less on =
       subst (Arrived 𝓜 s r) (put-cell-message 𝓜 L s w c k₀ k i m₀ m (M .w-in) (M .c-in))
       (arrived (cellMove 𝓜 s w c k₀ k i m₀ m) (cell-keeps 𝓜 L s (I .facts) w c k₀ k i m₀ m M) C (λ t. t) less on)
 
-  pub arrived-ex : (w c o e n₀ n : ℕ) (st₀ st : Status) (a₀ a : Bool) (i : ℕ) (m₀ m : Message) → ExMoves 𝓜 L s (I .facts) w c o e n₀ n st₀ st a₀ a i m₀ m → Carries 𝓜 s (cellMove 𝓜 s w c (Ex o e n₀ st₀ a₀) (Ex o e n st a) i m₀ m) → spends 𝓜 (next 𝓜 s (cellMove 𝓜 s w c (Ex o e n₀ st₀ a₀) (Ex o e n st a) i m₀ m)) r m < spends 𝓜 (next 𝓜 s (cellMove 𝓜 s w c (Ex o e n₀ st₀ a₀) (Ex o e n st a) i m₀ m)) r m₀ → StatusOn st₀ st → Arrived 𝓜 s r (putMessage (putCell 𝓜 s w c (Ex o e n st a)) i m)
+  pub arrived-ex : (w c o e n₀ n : ℕ) (st₀ st : Status) (a₀ a : Bool) (i : ℕ) (m₀ m : Message)
+      → ExMoves 𝓜 L s (I .facts) w c o e n₀ n st₀ st a₀ a i m₀ m → Carries 𝓜 s (cellMove 𝓜 s w c (Ex o e n₀ st₀ a₀) (Ex o e n st a) i m₀ m)
+      → spends 𝓜 (next 𝓜 s (cellMove 𝓜 s w c (Ex o e n₀ st₀ a₀) (Ex o e n st a) i m₀ m)) r m < spends 𝓜 (next 𝓜 s (cellMove 𝓜 s w c (Ex o e n₀ st₀ a₀) (Ex o e n st a) i m₀ m)) r m₀
+      → StatusOn st₀ st → Arrived 𝓜 s r (putMessage (putCell 𝓜 s w c (Ex o e n st a)) i m)
   arrived-ex w c o e n₀ n st₀ st a₀ a i m₀ m M C less on =
       let inside = cell-inside 𝓜 s w c (ap isFree (M .old-cell)) in
       subst (Arrived 𝓜 s r) (put-cell-message 𝓜 L s w c (Ex o e n₀ st₀ a₀) (Ex o e n st a) i m₀ m (inside .0) (inside .1))
       (arrived (cellMove 𝓜 s w c (Ex o e n₀ st₀ a₀) (Ex o e n st a) i m₀ m) (ex-keeps 𝓜 L s (I .facts) w c o e n₀ n st₀ st a₀ a i m₀ m M) C (λ t. t) less (record { weight = n; status = st; asking = a; is = refl; on = on }))
 
-  pub arrived-entry : (o e : ℕ) (x₀ x : Holding) (i : ℕ) (m₀ m : Message) → EntryMoves 𝓜 L s (I .facts) o e x₀ x i m₀ m → Carries 𝓜 s (entryMove 𝓜 s o e x₀ x i m₀ m) → (isLive x ≡ true → isLive x₀ ≡ true) → spends 𝓜 (next 𝓜 s (entryMove 𝓜 s o e x₀ x i m₀ m)) r m < spends 𝓜 (next 𝓜 s (entryMove 𝓜 s o e x₀ x i m₀ m)) r m₀ → Arrived 𝓜 s r (putMessage (putEntry 𝓜 s o e x) i m)
+  pub arrived-entry : (o e : ℕ) (x₀ x : Holding) (i : ℕ) (m₀ m : Message) → EntryMoves 𝓜 L s (I .facts) o e x₀ x i m₀ m
+      → Carries 𝓜 s (entryMove 𝓜 s o e x₀ x i m₀ m) → (isLive x ≡ true → isLive x₀ ≡ true)
+      → spends 𝓜 (next 𝓜 s (entryMove 𝓜 s o e x₀ x i m₀ m)) r m < spends 𝓜 (next 𝓜 s (entryMove 𝓜 s o e x₀ x i m₀ m)) r m₀
+      → Arrived 𝓜 s r (putMessage (putEntry 𝓜 s o e x) i m)
   arrived-entry o e x₀ x i m₀ m M C old less =
       subst (Arrived 𝓜 s r) (put-entry-message 𝓜 L s o e x₀ x i m₀ m (M .o-in) (M .e-in))
       (arrived (entryMove 𝓜 s o e x₀ x i m₀ m) (entry-keeps 𝓜 L s (I .facts) o e x₀ x i m₀ m M) C old less (kind-same (cell 𝓜 s 0 0)))

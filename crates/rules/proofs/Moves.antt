@@ -42,6 +42,10 @@ abbrev pub entryMove : Machine → Tables → ℕ → ℕ → Holding → Holdin
 entryMove 𝓜 s o e x₀ x i m₀ m =
     record { w = 0; c = 0; k₀ = cell 𝓜 s 0 0; k = cell 𝓜 s 0 0; o = o; e = e; x₀ = x₀; x = x; i = i; m₀ = m₀; m = m }
 
+-- a change of the slot i alone; the entry that stands first is left as it is
+abbrev pub slotMove : Machine → Tables → ℕ → Message → Message → Move
+slotMove 𝓜 s i m₀ m = entryMove 𝓜 s 0 0 (entry 𝓜 s 0 0) (entry 𝓜 s 0 0) i m₀ m
+
 module _ (𝓜 : Machine) (L : Laws 𝓜) (s : Tables) where
   -- ---- the rules' stores, as changes
   same-entries : set (s .entries) (0 * 𝓜 .entries + 0) (record { holding = entry 𝓜 s 0 0 }) ≡ s .entries
@@ -54,7 +58,8 @@ module _ (𝓜 : Machine) (L : Laws 𝓜) (s : Tables) where
       ap (λ (y : Kind). set (s .cells) (0 * 𝓜 .cells + 0) (record { kind = y })) (cell-in 𝓜 s 0 0 (L .workers-some) (L .cells-some))
       ∙ set-getD (s .cells) (0 * 𝓜 .cells + 0) (record { kind = Free })
 
-  pub put-cell-message : (w c : ℕ) (k₀ k : Kind) (i : ℕ) (m₀ m : Message) → w < 𝓜 .workers → c < 𝓜 .cells → next 𝓜 s (cellMove 𝓜 s w c k₀ k i m₀ m) ≡ putMessage (putCell 𝓜 s w c k) i m
+  pub put-cell-message : (w c : ℕ) (k₀ k : Kind) (i : ℕ) (m₀ m : Message) → w < 𝓜 .workers → c < 𝓜 .cells
+      → next 𝓜 s (cellMove 𝓜 s w c k₀ k i m₀ m) ≡ putMessage (putCell 𝓜 s w c k) i m
   unfolding putCell putMessage
   put-cell-message w c k₀ k i m₀ m a b =
       rw (lt-ltb w (𝓜 .workers) a, lt-ltb c (𝓜 .cells) b)
@@ -66,13 +71,14 @@ module _ (𝓜 : Machine) (L : Laws 𝓜) (s : Tables) where
       rw (lt-ltb w (𝓜 .workers) a, lt-ltb c (𝓜 .cells) b)
       (ap₂ (λ (l : List Entry) (q : List Slot). record { p = s .p; cells = set (s .cells) (w * 𝓜 .cells + c) (record { kind = k }); entries = l; slots = q }) same-entries (set-getD (s .slots) 0 (record { message = Empty })))
 
-  pub put-entry-message : (o e : ℕ) (x₀ x : Holding) (i : ℕ) (m₀ m : Message) → o < 𝓜 .workers → e < 𝓜 .entries → next 𝓜 s (entryMove 𝓜 s o e x₀ x i m₀ m) ≡ putMessage (putEntry 𝓜 s o e x) i m
+  pub put-entry-message : (o e : ℕ) (x₀ x : Holding) (i : ℕ) (m₀ m : Message) → o < 𝓜 .workers → e < 𝓜 .entries
+      → next 𝓜 s (entryMove 𝓜 s o e x₀ x i m₀ m) ≡ putMessage (putEntry 𝓜 s o e x) i m
   unfolding putEntry putMessage
   put-entry-message o e x₀ x i m₀ m a b =
       rw (lt-ltb o (𝓜 .workers) a, lt-ltb e (𝓜 .entries) b)
       (ap (λ (l : List Cell). record { p = s .p; cells = l; entries = set (s .entries) (o * 𝓜 .entries + e) (record { holding = x }); slots = set (s .slots) i (record { message = m }) }) same-cells)
 
-  pub put-message : (i : ℕ) (m₀ m : Message) → next 𝓜 s (entryMove 𝓜 s 0 0 (entry 𝓜 s 0 0) (entry 𝓜 s 0 0) i m₀ m) ≡ putMessage s i m
+  pub put-message : (i : ℕ) (m₀ m : Message) → next 𝓜 s (slotMove 𝓜 s i m₀ m) ≡ putMessage s i m
   unfolding putMessage
   put-message i m₀ m =
       ap₂ (λ (l : List Cell) (q : List Entry). record { p = s .p; cells = l; entries = q; slots = set (s .slots) i (record { message = m }) }) same-cells same-entries
@@ -89,11 +95,14 @@ module _ (𝓜 : Machine) (L : Laws 𝓜) (s : Tables) where
     pub busy-kept : busy 𝓜 s w c ≡ true → isVar k₀ ≡ false → shown k ≡ shown k₀
     pub var-kept : exported 𝓜 s w c ≡ true → isVar k₀ ≡ true → VarBecomes 𝓜 s w k
     pub ex-new : (d a b : ℕ) → exNames a b k ≡ true → exNames a b (cell 𝓜 s w d) ≡ true → d ≡ c
-    pub reads : (v d : ℕ) → bit (readsFor v d m) + cond (eqb w v && eqb c d) (bit (isReading k₀)) 0 ≡ bit (readsFor v d m₀) + cond (eqb w v && eqb c d) (bit (isReading k)) 0
-    pub asks : (v d : ℕ) → bit (asksFor v d m) + cond (eqb w v && eqb c d) (bit (isAsking k₀)) 0 ≡ bit (asksFor v d m₀) + cond (eqb w v && eqb c d) (bit (isAsking k)) 0
+    pub reads : (v d : ℕ)
+        → bit (readsFor v d m) + cond (eqb w v && eqb c d) (bit (isReading k₀)) 0 ≡ bit (readsFor v d m₀) + cond (eqb w v && eqb c d) (bit (isReading k)) 0
+    pub asks : (v d : ℕ)
+        → bit (asksFor v d m) + cond (eqb w v && eqb c d) (bit (isAsking k₀)) 0 ≡ bit (asksFor v d m₀) + cond (eqb w v && eqb c d) (bit (isAsking k)) 0
     pub weights : (a b : ℕ) → cellHolds 𝓜 s a b k₀ + messageHolds 𝓜 s a b m₀ ≡ cellHolds 𝓜 s a b k + messageHolds 𝓜 s a b m
     pub holds-ok : (m ≡ m₀) ⊎ ((a b : ℕ) → messageHolds 𝓜 (next 𝓜 s (cellMove 𝓜 s w c k₀ k i m₀ m)) a b m ≡ messageHolds 𝓜 s a b m)
-    pub room : (v : ℕ) → booked s v + bit (goesTo v m) + cond (eqb w v) (bit (isFree k₀)) 0 ≤ freeCells 𝓜 s v + bit (goesTo v m₀) + cond (eqb w v) (bit (isFree k)) 0
+    pub room : (v : ℕ)
+        → booked s v + bit (goesTo v m) + cond (eqb w v) (bit (isFree k₀)) 0 ≤ freeCells 𝓜 s v + bit (goesTo v m₀) + cond (eqb w v) (bit (isFree k)) 0
 
   module _ (F : Facts 𝓜 s) where
     pub cell-keeps : (w c : ℕ) (k₀ k : Kind) (i : ℕ) (m₀ m : Message) → CellMoves w c k₀ k i m₀ m → Keeps 𝓜 s (cellMove 𝓜 s w c k₀ k i m₀ m)
@@ -122,13 +131,15 @@ module _ (𝓜 : Machine) (L : Laws 𝓜) (s : Tables) where
       pub old-message : message s i ≡ m₀
       pub some : 1 ≤ n
       pub message-ok : MessageFact 𝓜 (next 𝓜 s (cellMove 𝓜 s w c (Ex o e n₀ st₀ a₀) (Ex o e n st a) i m₀ m)) m
-      pub reads : (v d : ℕ) → bit (readsFor v d m) + cond (eqb w v && eqb c d) (bit (readingOf st₀)) 0 ≡ bit (readsFor v d m₀) + cond (eqb w v && eqb c d) (bit (readingOf st)) 0
+      pub reads : (v d : ℕ)
+          → bit (readsFor v d m) + cond (eqb w v && eqb c d) (bit (readingOf st₀)) 0 ≡ bit (readsFor v d m₀) + cond (eqb w v && eqb c d) (bit (readingOf st)) 0
       pub asks : (v d : ℕ) → bit (asksFor v d m) + cond (eqb w v && eqb c d) (bit a₀) 0 ≡ bit (asksFor v d m₀) + cond (eqb w v && eqb c d) (bit a) 0
       pub weights : (x y : ℕ) → cond (eqb o x && eqb e y) n₀ 0 + messageHolds 𝓜 s x y m₀ ≡ cond (eqb o x && eqb e y) n 0 + messageHolds 𝓜 s x y m
       pub holds-ok : (x y : ℕ) → messageHolds 𝓜 (next 𝓜 s (cellMove 𝓜 s w c (Ex o e n₀ st₀ a₀) (Ex o e n st a) i m₀ m)) x y m ≡ messageHolds 𝓜 s x y m
       pub room : (v : ℕ) → booked s v + bit (goesTo v m) ≤ freeCells 𝓜 s v + bit (goesTo v m₀)
 
-    pub ex-keeps : (w c o e n₀ n : ℕ) (st₀ st : Status) (a₀ a : Bool) (i : ℕ) (m₀ m : Message) → ExMoves w c o e n₀ n st₀ st a₀ a i m₀ m → Keeps 𝓜 s (cellMove 𝓜 s w c (Ex o e n₀ st₀ a₀) (Ex o e n st a) i m₀ m)
+    pub ex-keeps : (w c o e n₀ n : ℕ) (st₀ st : Status) (a₀ a : Bool) (i : ℕ) (m₀ m : Message) → ExMoves w c o e n₀ n st₀ st a₀ a i m₀ m
+        → Keeps 𝓜 s (cellMove 𝓜 s w c (Ex o e n₀ st₀ a₀) (Ex o e n st a) i m₀ m)
     ex-keeps w c o e n₀ n st₀ st a₀ a i m₀ m M =
         let f : CellFact 𝓜 s w (Ex o e n₀ st₀ a₀) = subst (CellFact 𝓜 s w) (M .old-cell) (F .cells w c) in
         let inside = cell-inside 𝓜 s w c (ap isFree (M .old-cell)) in
@@ -151,7 +162,8 @@ module _ (𝓜 : Machine) (L : Laws 𝓜) (s : Tables) where
           room = λ v. let r = M .room v in zeroes v (eqb w v) r;
         })
       where
-        zeroes : (v : ℕ) (t : Bool) → booked s v + bit (goesTo v m) ≤ freeCells 𝓜 s v + bit (goesTo v m₀) → booked s v + bit (goesTo v m) + cond t 0 0 ≤ freeCells 𝓜 s v + bit (goesTo v m₀) + cond t 0 0
+        zeroes : (v : ℕ) (t : Bool) → booked s v + bit (goesTo v m) ≤ freeCells 𝓜 s v + bit (goesTo v m₀)
+            → booked s v + bit (goesTo v m) + cond t 0 0 ≤ freeCells 𝓜 s v + bit (goesTo v m₀) + cond t 0 0
         zeroes v t r = omega arith
 
     -- ---- an entry and a slot
@@ -167,7 +179,8 @@ module _ (𝓜 : Machine) (L : Laws 𝓜) (s : Tables) where
       pub entry-new : (f d : ℕ) → entryNames d x ≡ true → entryNames d (entry 𝓜 s o f) ≡ true → f ≡ e
       pub reads : (v d : ℕ) → bit (readsFor v d m) ≡ bit (readsFor v d m₀)
       pub asks : (v d : ℕ) → bit (asksFor v d m) ≡ bit (asksFor v d m₀)
-      pub weights : (a b : ℕ) → cond (eqb o a && eqb e b) (entryWeight x) 0 + messageHolds 𝓜 s a b m₀ ≡ cond (eqb o a && eqb e b) (entryWeight x₀) 0 + messageHolds 𝓜 s a b m
+      pub weights : (a b : ℕ)
+          → cond (eqb o a && eqb e b) (entryWeight x) 0 + messageHolds 𝓜 s a b m₀ ≡ cond (eqb o a && eqb e b) (entryWeight x₀) 0 + messageHolds 𝓜 s a b m
       pub holds-ok : (a b : ℕ) → messageHolds 𝓜 (next 𝓜 s (entryMove 𝓜 s o e x₀ x i m₀ m)) a b m ≡ messageHolds 𝓜 s a b m
       pub room : (v : ℕ) → booked s v + bit (goesTo v m) ≤ freeCells 𝓜 s v + bit (goesTo v m₀)
 

@@ -80,6 +80,7 @@ module _ (𝓜 : Machine) (s : Tables) (h : Move) (z : Sized 𝓜 s) (P : Placed
       (arith, ap f (P .old-message), total-set (λ (y : Slot). f (y .message)) (s .slots) (h .i) (record { message = h .m }) (record { message = Empty }) slot-place)
 
   -- a worker's free cells
-  pub free-count : (v : ℕ) → freeCells 𝓜 (next 𝓜 s h) v + cond (eqb (h .w) v) (bit (isFree (h .k₀))) 0 ≡ freeCells 𝓜 s v + cond (eqb (h .w) v) (bit (isFree (h .k))) 0
+  pub free-count : (v : ℕ)
+      → freeCells 𝓜 (next 𝓜 s h) v + cond (eqb (h .w) v) (bit (isFree (h .k₀))) 0 ≡ freeCells 𝓜 s v + cond (eqb (h .w) v) (bit (isFree (h .k))) 0
   unfolding freeCells
   free-count v = stored-row cell-stored (𝓜 .cells) (P .c-in) (λ (y : Kind). bit (isFree y)) v

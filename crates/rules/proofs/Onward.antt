@@ -50,7 +50,8 @@ module _ (𝓜 : Machine) (s : Tables) (h : Move) (F : Facts 𝓜 s) (K : Keeps 
   -- ---- the end of an exported cell, before and after
   pub data EndKept (v d : ℕ) : Type 0 where
     -- the same value, the same reference, or a VAR that is still one, or has its value
-    as-before : namedBy (endKind 𝓜 (next 𝓜 s h) v d) ≡ namedBy (endKind 𝓜 s v d) → ((n : ℕ) → endKind 𝓜 s v d ≡ Val n → endKind 𝓜 (next 𝓜 s h) v d ≡ Val n) → EndKept v d
+    as-before : namedBy (endKind 𝓜 (next 𝓜 s h) v d) ≡ namedBy (endKind 𝓜 s v d)
+        → ((n : ℕ) → endKind 𝓜 s v d ≡ Val n → endKind 𝓜 (next 𝓜 s h) v d ≡ Val n) → EndKept v d
     -- a VAR that is bound to a safe EX
     newly-bound : (y : ℕ) → cell 𝓜 s v d ≡ Var → endKind 𝓜 (next 𝓜 s h) v d ≡ cell 𝓜 s v y → safe 𝓜 s v (cell 𝓜 s v y) ≡ true → EndKept v d
 
@@ -99,7 +100,8 @@ module _ (𝓜 : Machine) (s : Tables) (h : Move) (F : Facts 𝓜 s) (K : Keeps 
       (exported-by 𝓜 s a (l .cell) b (ap (entryNames (l .cell)) (l .is) ∙ eq-eqb (l .cell) (l .cell) refl), live-fact 𝓜 s F a b l .2)
 
   -- an entry that is live before and after, taken apart: the same cell
-  pub after-live : (a b : ℕ) (l : IsLive (entry 𝓜 s a b)) → isLive (entry 𝓜 (next 𝓜 s h) a b) ≡ true → (n : ℕ) × (t : Bool) × (entry 𝓜 (next 𝓜 s h) a b ≡ Live (l .cell) n t)
+  pub after-live : (a b : ℕ) (l : IsLive (entry 𝓜 s a b)) → isLive (entry 𝓜 (next 𝓜 s h) a b) ≡ true
+      → (n : ℕ) × (t : Bool) × (entry 𝓜 (next 𝓜 s h) a b ≡ Live (l .cell) n t)
   after-live a b l t =
       let l′ = the-live (entry 𝓜 (next 𝓜 s h) a b) t in
       let r = live-kept 𝓜 s h F K a b (ap isLive (l .is)) t in
@@ -127,7 +129,9 @@ module _ (𝓜 : Machine) (s : Tables) (h : Move) (F : Facts 𝓜 s) (K : Keeps 
   ahead-kept (suc n) Nowhere o e l q = nowhere-at (sym (ahead-nowhere 𝓜 s n) ∙ q)
   ahead-kept (suc n) (At a b) o e l q = go (follow 𝓜 s (At a b)) refl (ahead-kept n (follow 𝓜 s (At a b)) o e)
     where
-      go : (r : Place) → follow 𝓜 s (At a b) ≡ r → (LivePlace 𝓜 (next 𝓜 s h) (follow 𝓜 s (At a b)) → ahead 𝓜 s n (follow 𝓜 s (At a b)) ≡ At o e → ahead 𝓜 (next 𝓜 s h) n (follow 𝓜 s (At a b)) ≡ At o e) → ahead 𝓜 (next 𝓜 s h) n (follow 𝓜 (next 𝓜 s h) (At a b)) ≡ At o e
+      go : (r : Place) → follow 𝓜 s (At a b) ≡ r
+          → (LivePlace 𝓜 (next 𝓜 s h) (follow 𝓜 s (At a b)) → ahead 𝓜 s n (follow 𝓜 s (At a b)) ≡ At o e → ahead 𝓜 (next 𝓜 s h) n (follow 𝓜 s (At a b)) ≡ At o e)
+          → ahead 𝓜 (next 𝓜 s h) n (follow 𝓜 (next 𝓜 s h) (At a b)) ≡ At o e
       go Nowhere i rec = nowhere-at (sym (ahead-nowhere 𝓜 s n) ∙ sym (ap (ahead 𝓜 s n) i) ∙ q)
       go (At a′ b′) i rec =
           let kept = follow-kept a b a′ b′ i (l a b refl) in
@@ -142,7 +146,9 @@ module _ (𝓜 : Machine) (s : Tables) (h : Move) (F : Facts 𝓜 s) (K : Keeps 
       let alive = ahead-place 𝓜 (next 𝓜 s h) F′ (x .steps) p l (x .owner) (x .number) there in
       record { steps = x .steps; owner = x .owner; number = x .number; there = there; value = go (entry 𝓜 s (x .owner) (x .number)) refl (x .value) alive }
     where
-      go : (y : Holding) → entry 𝓜 s (x .owner) (x .number) ≡ y → entryEnd 𝓜 s (x .owner) y ≡ Val v → isLive (entry 𝓜 (next 𝓜 s h) (x .owner) (x .number)) ≡ true → entryEnd 𝓜 (next 𝓜 s h) (x .owner) (entry 𝓜 (next 𝓜 s h) (x .owner) (x .number)) ≡ Val v
+      go : (y : Holding) → entry 𝓜 s (x .owner) (x .number) ≡ y → entryEnd 𝓜 s (x .owner) y ≡ Val v
+          → isLive (entry 𝓜 (next 𝓜 s h) (x .owner) (x .number)) ≡ true
+          → entryEnd 𝓜 (next 𝓜 s h) (x .owner) (entry 𝓜 (next 𝓜 s h) (x .owner) (x .number)) ≡ Val v
       go Unused i q t = let z : _≡_ {A = ℕ} 0 1 = cc in absurd (omega arith)
       go (Live d n b) i q t =
           let lv : IsLive (entry 𝓜 s (x .owner) (x .number)) = record { cell = d; weight = n; tainted = b; is = i } in

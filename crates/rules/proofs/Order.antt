@@ -26,7 +26,8 @@ module _ (𝓜 : Machine) (s : Tables) where
   bind-in-order w c x = refl
 
   -- by reference and by location
-  pub export-in-order : (ex : Bool) (w c x to : ℕ) → inOrder (sendRefusals 𝓜 s w c to ++ cond ex (byReferenceRefusals 𝓜 s w x to) (byLocationRefusals 𝓜 s w x to)) ≡ true
+  pub export-in-order : (ex : Bool) (w c x to : ℕ)
+      → inOrder (sendRefusals 𝓜 s w c to ++ cond ex (byReferenceRefusals 𝓜 s w x to) (byLocationRefusals 𝓜 s w x to)) ≡ true
   unfolding inOrderFrom
   export-in-order true w c x to = refl
   export-in-order false w c x to = refl

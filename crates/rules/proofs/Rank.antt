@@ -67,7 +67,8 @@ module _ (𝓜 : Machine) (s : Tables) (h : Move) (F : Facts 𝓜 s) (K : Keeps 
       let names : namedBy (endKind 𝓜 (next 𝓜 s h) a (l .cell)) ≡ At o e = sym (follow-live 𝓜 (next 𝓜 s h) a b (l .cell) (l′ .0) (l′ .1) (l′ .2)) ∙ q in
       go (l .cell) (follow-live 𝓜 s a b (l .cell) (l .weight) (l .tainted) (l .is)) names (end-kept 𝓜 s h F K a (l .cell) (x .0) (x .1))
     where
-      go : (d : ℕ) → follow 𝓜 s (At a b) ≡ namedBy (endKind 𝓜 s a d) → namedBy (endKind 𝓜 (next 𝓜 s h) a d) ≡ At o e → EndKept 𝓜 s h F K a d → (isLive (entry 𝓜 s o e) ≡ true) × (r o e < r a b)
+      go : (d : ℕ) → follow 𝓜 s (At a b) ≡ namedBy (endKind 𝓜 s a d) → namedBy (endKind 𝓜 (next 𝓜 s h) a d) ≡ At o e → EndKept 𝓜 s h F K a d
+          → (isLive (entry 𝓜 s o e) ≡ true) × (r o e < r a b)
       go d was names (as-before p v) =
           let step : follow 𝓜 s (At a b) ≡ At o e = was ∙ sym p ∙ names in
           (follow-place 𝓜 s F (At a b) o e step, R .falls a b o e step)
@@ -78,7 +79,9 @@ module _ (𝓜 : Machine) (s : Tables) (h : Move) (F : Facts 𝓜 s) (K : Keeps 
           (alive, omega (arith, R .own o e alive (z .1), R .low a b t, z .0))
 
   -- a rank that agrees on the entries that were there, and is right for the one that the change made
-  pub ranked-by : (r′ : ℕ → ℕ → ℕ) → ((a b : ℕ) → isLive (entry 𝓜 s a b) ≡ true → r′ a b ≡ r a b) → (isLive (h .x₀) ≡ false → isLive (h .x) ≡ true → (h .o ≤ r′ (h .o) (h .e)) × (isTainted (h .x) ≡ false → r′ (h .o) (h .e) ≡ h .o) × ((o e : ℕ) → isLive (entry 𝓜 s o e) ≡ true → follow 𝓜 (next 𝓜 s h) (At (h .o) (h .e)) ≡ At o e → r o e < r′ (h .o) (h .e))) → Ranked 𝓜 (next 𝓜 s h) r′
+  pub ranked-by : (r′ : ℕ → ℕ → ℕ) → ((a b : ℕ) → isLive (entry 𝓜 s a b) ≡ true → r′ a b ≡ r a b)
+      → (isLive (h .x₀) ≡ false → isLive (h .x) ≡ true → (h .o ≤ r′ (h .o) (h .e)) × (isTainted (h .x) ≡ false → r′ (h .o) (h .e) ≡ h .o) × ((o e : ℕ) → isLive (entry 𝓜 s o e) ≡ true → follow 𝓜 (next 𝓜 s h) (At (h .o) (h .e)) ≡ At o e → r o e < r′ (h .o) (h .e)))
+      → Ranked 𝓜 (next 𝓜 s h) r′
   unfolding endKind
   ranked-by r′ agree made =
       record {
@@ -90,20 +93,23 @@ module _ (𝓜 : Machine) (s : Tables) (h : Move) (F : Facts 𝓜 s) (K : Keeps 
       new-here : (a b : ℕ) → h .o ≡ a → h .e ≡ b → entry 𝓜 (next 𝓜 s h) a b ≡ h .x
       new-here a b p q = ap₂ (entry 𝓜 (next 𝓜 s h)) (sym p) (sym q) ∙ entries-changed .here
 
-      low : (a b : ℕ) → isLive (entry 𝓜 (next 𝓜 s h) a b) ≡ true → (isLive (entry 𝓜 s a b) ≡ true) ⊎ ((h .o ≡ a) × (h .e ≡ b) × (isLive (h .x₀) ≡ false)) → a ≤ r′ a b
+      low : (a b : ℕ) → isLive (entry 𝓜 (next 𝓜 s h) a b) ≡ true
+          → (isLive (entry 𝓜 s a b) ≡ true) ⊎ ((h .o ≡ a) × (h .e ≡ b) × (isLive (h .x₀) ≡ false)) → a ≤ r′ a b
       low a b t (inl l) = omega (arith, R .low a b l, agree a b l)
       low a b t (inr q) =
           subst (λ (u : ℕ). u ≤ r′ u b) (q .0)
           (subst (λ (u : ℕ). h .o ≤ r′ (h .o) u) (q .1) (made (q .2) (sym (ap isLive (new-here a b (q .0) (q .1))) ∙ t) .0))
 
-      own : (a b : ℕ) → isLive (entry 𝓜 (next 𝓜 s h) a b) ≡ true → isTainted (entry 𝓜 (next 𝓜 s h) a b) ≡ false → (isLive (entry 𝓜 s a b) ≡ true) ⊎ ((h .o ≡ a) × (h .e ≡ b) × (isLive (h .x₀) ≡ false)) → r′ a b ≡ a
+      own : (a b : ℕ) → isLive (entry 𝓜 (next 𝓜 s h) a b) ≡ true → isTainted (entry 𝓜 (next 𝓜 s h) a b) ≡ false
+          → (isLive (entry 𝓜 s a b) ≡ true) ⊎ ((h .o ≡ a) × (h .e ≡ b) × (isLive (h .x₀) ≡ false)) → r′ a b ≡ a
       own a b t u (inl l) = agree a b l ∙ R .own a b l (sym (live-kept 𝓜 s h F K a b l t .1) ∙ u)
       own a b t u (inr q) =
           let e = new-here a b (q .0) (q .1) in
           let m = made (q .2) (sym (ap isLive e) ∙ t) in
           subst (λ (y : ℕ). r′ y b ≡ y) (q .0) (subst (λ (y : ℕ). r′ (h .o) y ≡ h .o) (q .1) (m .1 (sym (ap isTainted e) ∙ u)))
 
-      falls : (a b o e : ℕ) → follow 𝓜 (next 𝓜 s h) (At a b) ≡ At o e → (isLive (entry 𝓜 s a b) ≡ true) ⊎ ((h .o ≡ a) × (h .e ≡ b) × (isLive (h .x₀) ≡ false)) → r′ o e < r′ a b
+      falls : (a b o e : ℕ) → follow 𝓜 (next 𝓜 s h) (At a b) ≡ At o e
+          → (isLive (entry 𝓜 s a b) ≡ true) ⊎ ((h .o ≡ a) × (h .e ≡ b) × (isLive (h .x₀) ≡ false)) → r′ o e < r′ a b
       falls a b o e q (inl l) =
           let z = old-step a b o e l q in
           omega (arith, agree a b l, agree o e (z .0), z .1)

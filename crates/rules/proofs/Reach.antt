@@ -101,7 +101,9 @@ module _ (𝓜 : Machine) (s : Tables) where
             absurd (omega (arith, c .1))
     shorten (suc fuel) n l q = go (decLt n (𝓜 .workers * 𝓜 .entries)) (shorten fuel)
       where
-        go : Dec (n < 𝓜 .workers * 𝓜 .entries) → ((k : ℕ) → k ≤ fuel → ahead 𝓜 s k from ≡ At o e → (m : ℕ) × (m < 𝓜 .workers * 𝓜 .entries) × (ahead 𝓜 s m from ≡ At o e)) → (m : ℕ) × (m < 𝓜 .workers * 𝓜 .entries) × (ahead 𝓜 s m from ≡ At o e)
+        go : Dec (n < 𝓜 .workers * 𝓜 .entries)
+            → ((k : ℕ) → k ≤ fuel → ahead 𝓜 s k from ≡ At o e → (m : ℕ) × (m < 𝓜 .workers * 𝓜 .entries) × (ahead 𝓜 s m from ≡ At o e))
+            → (m : ℕ) × (m < 𝓜 .workers * 𝓜 .entries) × (ahead 𝓜 s m from ≡ At o e)
         go (yes less) rec = (n, less, q)
         go (no more) rec =
             let c = cut n (omega arith) q in

@@ -53,7 +53,11 @@ module _ (𝓜 : Machine) (L : Laws 𝓜) (s : Tables) (F : Facts 𝓜 s) where
     pub slot : leb (𝓜 .slots) (lowestEmptySlot 𝓜 s) ≡ false
 
   -- an entry e that gains the first weight
-  located : (w x to : ℕ) (taint : Bool) → Locates w x to taint → (e : ℕ) (x₀ y : Holding) → e < 𝓜 .entries → entry 𝓜 s w e ≡ x₀ → EntryFact 𝓜 (next 𝓜 s (entryMove 𝓜 s w e x₀ y (lowestEmptySlot 𝓜 s) Empty (Reference to w e (𝓜 .firstWeight)))) w y → (isLive x₀ ≡ true → isLive y ≡ true → (cellOf y ≡ cellOf x₀) × (isTainted y ≡ isTainted x₀)) → ((f d : ℕ) → entryNames d y ≡ true → entryNames d (entry 𝓜 s w f) ≡ true → f ≡ e) → entryWeight x₀ + 𝓜 .firstWeight ≡ entryWeight y → Makes 𝓜 s (putMessage (putEntry 𝓜 s w e y) (lowestEmptySlot 𝓜 s) (Reference to w e (𝓜 .firstWeight)))
+  located : (w x to : ℕ) (taint : Bool) → Locates w x to taint → (e : ℕ) (x₀ y : Holding) → e < 𝓜 .entries → entry 𝓜 s w e ≡ x₀
+      → EntryFact 𝓜 (next 𝓜 s (entryMove 𝓜 s w e x₀ y (lowestEmptySlot 𝓜 s) Empty (Reference to w e (𝓜 .firstWeight)))) w y
+      → (isLive x₀ ≡ true → isLive y ≡ true → (cellOf y ≡ cellOf x₀) × (isTainted y ≡ isTainted x₀))
+      → ((f d : ℕ) → entryNames d y ≡ true → entryNames d (entry 𝓜 s w f) ≡ true → f ≡ e) → entryWeight x₀ + 𝓜 .firstWeight ≡ entryWeight y
+      → Makes 𝓜 s (putMessage (putEntry 𝓜 s w e y) (lowestEmptySlot 𝓜 s) (Reference to w e (𝓜 .firstWeight)))
   located w x to taint l e x₀ y e-in q fact kept new more =
       let free = empty-slot 𝓜 L s F (l .slot) in
       makes-entry 𝓜 L s F w e x₀ y (lowestEmptySlot 𝓜 s) Empty (Reference to w e (𝓜 .firstWeight))
@@ -82,7 +86,9 @@ module _ (𝓜 : Machine) (L : Laws 𝓜) (s : Tables) (F : Facts 𝓜 s) where
       k : ℕ
       k = lowestEmptySlot 𝓜 s
 
-      go : (b : Bool) → exported 𝓜 s w x ≡ b → leb (𝓜 .entries) (cond b (entryOf 𝓜 s w x) (lowestFreeEntry 𝓜 s w)) ≡ false → entryWeight (entry 𝓜 s w (cond b (entryOf 𝓜 s w x) (lowestFreeEntry 𝓜 s w))) + 𝓜 .firstWeight ≤ 𝓜 .ceiling → Makes 𝓜 s (putMessage (putEntry 𝓜 s w (cond b (entryOf 𝓜 s w x) (lowestFreeEntry 𝓜 s w)) (gains (𝓜 .firstWeight) x taint (entry 𝓜 s w (cond b (entryOf 𝓜 s w x) (lowestFreeEntry 𝓜 s w))))) (lowestEmptySlot 𝓜 s) (Reference to w (cond b (entryOf 𝓜 s w x) (lowestFreeEntry 𝓜 s w)) (𝓜 .firstWeight)))
+      go : (b : Bool) → exported 𝓜 s w x ≡ b → leb (𝓜 .entries) (cond b (entryOf 𝓜 s w x) (lowestFreeEntry 𝓜 s w)) ≡ false
+          → entryWeight (entry 𝓜 s w (cond b (entryOf 𝓜 s w x) (lowestFreeEntry 𝓜 s w))) + 𝓜 .firstWeight ≤ 𝓜 .ceiling
+          → Makes 𝓜 s (putMessage (putEntry 𝓜 s w (cond b (entryOf 𝓜 s w x) (lowestFreeEntry 𝓜 s w)) (gains (𝓜 .firstWeight) x taint (entry 𝓜 s w (cond b (entryOf 𝓜 s w x) (lowestFreeEntry 𝓜 s w))))) (lowestEmptySlot 𝓜 s) (Reference to w (cond b (entryOf 𝓜 s w x) (lowestFreeEntry 𝓜 s w)) (𝓜 .firstWeight)))
       go true ex more below =
           let e = entryOf 𝓜 s w x in
           let n = the-entry-of x (entry 𝓜 s w e) (own-entry 𝓜 s w x ex) in
@@ -109,7 +115,8 @@ module _ (𝓜 : Machine) (L : Laws 𝓜) (s : Tables) (F : Facts 𝓜 s) where
           (omega arith))
 
   -- ---- by reference
-  by-reference-makes : (w x to : ℕ) → to < s .p → isEx (cell 𝓜 s w x) ≡ true → leb (exWeight (cell 𝓜 s w x)) 1 ≡ false → booked s to < freeCells 𝓜 s to → leb (𝓜 .slots) (lowestEmptySlot 𝓜 s) ≡ false → Makes 𝓜 s (byReference 𝓜 s w x to .after)
+  by-reference-makes : (w x to : ℕ) → to < s .p → isEx (cell 𝓜 s w x) ≡ true → leb (exWeight (cell 𝓜 s w x)) 1 ≡ false
+      → booked s to < freeCells 𝓜 s to → leb (𝓜 .slots) (lowestEmptySlot 𝓜 s) ≡ false → Makes 𝓜 s (byReference 𝓜 s w x to .after)
   unfolding byReference
   by-reference-makes w x to u ex heavy room full =
       let y = the-ex (cell 𝓜 s w x) ex in
@@ -146,7 +153,8 @@ module _ (𝓜 : Machine) (L : Laws 𝓜) (s : Tables) (F : Facts 𝓜 s) where
           let y = the-ex (cell 𝓜 s w d) t in
           (ap isFree (y .is), ap (λ (k : Kind). cell 𝓜 s w (endFrom k d)) (y .is))
 
-      go : (k : Kind) → cell 𝓜 s w c ≡ k → isFree k ≡ false → (isFree (cell 𝓜 s w (endFrom (cell 𝓜 s w c) c)) ≡ false) × (cell 𝓜 s w (endFrom (cell 𝓜 s w (endFrom (cell 𝓜 s w c) c)) (endFrom (cell 𝓜 s w c) c)) ≡ cell 𝓜 s w (endFrom (cell 𝓜 s w c) c))
+      go : (k : Kind) → cell 𝓜 s w c ≡ k → isFree k ≡ false
+          → (isFree (cell 𝓜 s w (endFrom (cell 𝓜 s w c) c)) ≡ false) × (cell 𝓜 s w (endFrom (cell 𝓜 s w (endFrom (cell 𝓜 s w c) c)) (endFrom (cell 𝓜 s w c) c)) ≡ cell 𝓜 s w (endFrom (cell 𝓜 s w c) c))
       go Free q t = absurd-bool refl t
       go Var q t = rw (q, q) (refl, q)
       go (Val n) q t = rw (q, q) (refl, q)
@@ -156,11 +164,13 @@ module _ (𝓜 : Machine) (L : Laws 𝓜) (s : Tables) (F : Facts 𝓜 s) where
       go (Ex o e n st a) q t = rw (q, q) (refl, q)
 
   -- a cell that is neither free nor an EX, and its own end, is a VAR or a VAL
-  plain-end : (w x : ℕ) → isFree (cell 𝓜 s w x) ≡ false → isEx (cell 𝓜 s w x) ≡ false → endKind 𝓜 s w x ≡ cell 𝓜 s w x → varValOrSafe 𝓜 s w (cell 𝓜 s w x) ≡ true
+  plain-end : (w x : ℕ) → isFree (cell 𝓜 s w x) ≡ false → isEx (cell 𝓜 s w x) ≡ false → endKind 𝓜 s w x ≡ cell 𝓜 s w x
+      → varValOrSafe 𝓜 s w (cell 𝓜 s w x) ≡ true
   unfolding endKind end
   plain-end w x nf ne own = go (cell 𝓜 s w x) refl nf ne own
     where
-      go : (k : Kind) → cell 𝓜 s w x ≡ k → isFree k ≡ false → isEx k ≡ false → cell 𝓜 s w (endFrom (cell 𝓜 s w x) x) ≡ cell 𝓜 s w x → varValOrSafe 𝓜 s w (cell 𝓜 s w x) ≡ true
+      go : (k : Kind) → cell 𝓜 s w x ≡ k → isFree k ≡ false → isEx k ≡ false → cell 𝓜 s w (endFrom (cell 𝓜 s w x) x) ≡ cell 𝓜 s w x
+          → varValOrSafe 𝓜 s w (cell 𝓜 s w x) ≡ true
       go Free q t u o = absurd-bool refl t
       go Var q t u o = ap (varValOrSafe 𝓜 s w) q
       go (Val n) q t u o = ap (varValOrSafe 𝓜 s w) q
@@ -177,13 +187,16 @@ module _ (𝓜 : Machine) (L : Laws 𝓜) (s : Tables) (F : Facts 𝓜 s) where
       x : ℕ
       x = end 𝓜 s w c
 
-      go : (b : Bool) → isEx (cell 𝓜 s w (end 𝓜 s w c)) ≡ b → Makes 𝓜 s (checked s (sendRefusals 𝓜 s w c to ++ cond b (byReferenceRefusals 𝓜 s w (end 𝓜 s w c) to) (byLocationRefusals 𝓜 s w (end 𝓜 s w c) to)) (cond b (byReference 𝓜 s w (end 𝓜 s w c) to) (byLocation 𝓜 s w (end 𝓜 s w c) to false)) .after)
+      go : (b : Bool) → isEx (cell 𝓜 s w (end 𝓜 s w c)) ≡ b
+          → Makes 𝓜 s (checked s (sendRefusals 𝓜 s w c to ++ cond b (byReferenceRefusals 𝓜 s w (end 𝓜 s w c) to) (byLocationRefusals 𝓜 s w (end 𝓜 s w c) to)) (cond b (byReference 𝓜 s w (end 𝓜 s w c) to) (byLocation 𝓜 s w (end 𝓜 s w c) to false)) .after)
       go true ex =
           after-checked (Makes 𝓜 s) s (sendRefusals 𝓜 s w c to ++ byReferenceRefusals 𝓜 s w (end 𝓜 s w c) to) (byReference 𝓜 s w (end 𝓜 s w c) to) nothing
           (λ p. by-reference-makes w (end 𝓜 s w c) to (worker-used 𝓜 L s F to (search) .0) ex (search) (has-room 𝓜 L s F to (search)) (search))
       go false ne =
           after-checked (Makes 𝓜 s) s (sendRefusals 𝓜 s w c to ++ byLocationRefusals 𝓜 s w (end 𝓜 s w c) to) (byLocation 𝓜 s w (end 𝓜 s w c) to false) nothing
-          (λ p. let own = end-not-ref w c (search) in by-location-makes w (end 𝓜 s w c) to false (record { w-in = worker-used 𝓜 L s F w (search) .1; to-used = worker-used 𝓜 L s F to (search) .0; not-free = own .0; own-end = own .1; good = λ u. plain-end w (end 𝓜 s w c) (own .0) ne (own .1); below = ltb-false (𝓜 .ceiling) (entryWeight (entry 𝓜 s w (entryToUse 𝓜 s w (end 𝓜 s w c))) + 𝓜 .firstWeight) (search); has-entry = search; room = has-room 𝓜 L s F to (search); slot = search }))
+          (λ p.
+          let own = end-not-ref w c (search) in
+          by-location-makes w (end 𝓜 s w c) to false (record { w-in = worker-used 𝓜 L s F w (search) .1; to-used = worker-used 𝓜 L s F to (search) .0; not-free = own .0; own-end = own .1; good = λ u. plain-end w (end 𝓜 s w c) (own .0) ne (own .1); below = ltb-false (𝓜 .ceiling) (entryWeight (entry 𝓜 s w (entryToUse 𝓜 s w (end 𝓜 s w c))) + 𝓜 .firstWeight) (search); has-entry = search; room = has-room 𝓜 L s F to (search); slot = search }))
 
   pub indirect-makes : (w c to : ℕ) → Makes 𝓜 s (indirect 𝓜 s w c to .after)
   unfolding indirect endKind
@@ -191,11 +204,14 @@ module _ (𝓜 : Machine) (L : Laws 𝓜) (s : Tables) (F : Facts 𝓜 s) where
       let x = end 𝓜 s w c in
       let taint = not (safe 𝓜 s w (cell 𝓜 s w x)) in
       after-checked (Makes 𝓜 s) s (indirectRefusals 𝓜 s w c to) (byLocation 𝓜 s w x to taint) nothing
-      (λ p. let own = end-not-ref w c (search) in by-location-makes w x to taint (record { w-in = worker-used 𝓜 L s F w (search) .1; to-used = worker-used 𝓜 L s F to (search) .0; not-free = own .0; own-end = own .1; good = λ u. or-r (isVar (cell 𝓜 s w x) || isVal (cell 𝓜 s w x)) (not-false u); below = ltb-false (𝓜 .ceiling) (entryWeight (entry 𝓜 s w (entryToUse 𝓜 s w x)) + 𝓜 .firstWeight) (search); has-entry = search; room = has-room 𝓜 L s F to (search); slot = search }))
+      (λ p.
+      let own = end-not-ref w c (search) in
+      by-location-makes w x to taint (record { w-in = worker-used 𝓜 L s F w (search) .1; to-used = worker-used 𝓜 L s F to (search) .0; not-free = own .0; own-end = own .1; good = λ u. or-r (isVar (cell 𝓜 s w x) || isVal (cell 𝓜 s w x)) (not-false u); below = ltb-false (𝓜 .ceiling) (entryWeight (entry 𝓜 s w (entryToUse 𝓜 s w x)) + 𝓜 .firstWeight) (search); has-entry = search; room = has-room 𝓜 L s F to (search); slot = search }))
 
   -- ---- read and ask
   -- an EX that waits for the message that goes into the empty slot
-  here-named : (w x o e n n′ : ℕ) (st st′ : Status) (a a′ : Bool) (i : ℕ) (m : Message) → i < 𝓜 .slots → message s i ≡ Empty → cell 𝓜 s w x ≡ Ex o e n st a → cell 𝓜 (next 𝓜 s (cellMove 𝓜 s w x (Ex o e n st a) (Ex o e n′ st′ a′) i Empty m)) w x ≡ Ex o e n′ st′ a′
+  here-named : (w x o e n n′ : ℕ) (st st′ : Status) (a a′ : Bool) (i : ℕ) (m : Message) → i < 𝓜 .slots → message s i ≡ Empty
+      → cell 𝓜 s w x ≡ Ex o e n st a → cell 𝓜 (next 𝓜 s (cellMove 𝓜 s w x (Ex o e n st a) (Ex o e n′ st′ a′) i Empty m)) w x ≡ Ex o e n′ st′ a′
   here-named w x o e n n′ st st′ a a′ i m l q old =
       let inside = cell-inside 𝓜 s w x (ap isFree old) in
       cell-stored 𝓜 s (cellMove 𝓜 s w x (Ex o e n st a) (Ex o e n′ st′ a′) i Empty m) (F .sized)
@@ -206,7 +222,8 @@ module _ (𝓜 : Machine) (L : Laws 𝓜) (s : Tables) (F : Facts 𝓜 s) where
   mark-on true = refl
   mark-on false = refl
 
-  read-sent : (w x o e n : ℕ) (a : Bool) → cell 𝓜 s w x ≡ Ex o e n Idle a → leb (𝓜 .slots) (lowestEmptySlot 𝓜 s) ≡ false → Makes 𝓜 s (putMessage (putCell 𝓜 s w x (Ex o e n Reading a)) (lowestEmptySlot 𝓜 s) (Read w x o e))
+  read-sent : (w x o e n : ℕ) (a : Bool) → cell 𝓜 s w x ≡ Ex o e n Idle a → leb (𝓜 .slots) (lowestEmptySlot 𝓜 s) ≡ false
+      → Makes 𝓜 s (putMessage (putCell 𝓜 s w x (Ex o e n Reading a)) (lowestEmptySlot 𝓜 s) (Read w x o e))
   unfolding ahead
   read-sent w x o e n a q full =
       let k = lowestEmptySlot 𝓜 s in
@@ -235,7 +252,8 @@ module _ (𝓜 : Machine) (L : Laws 𝓜) (s : Tables) (F : Facts 𝓜 s) where
       x : ℕ
       x = end 𝓜 s w c
 
-      go : (k : Kind) → cell 𝓜 s w (end 𝓜 s w c) ≡ k → (onEx false (λ o e n st a. readSends st) k && leb (𝓜 .slots) (lowestEmptySlot 𝓜 s)) ≡ false → Makes 𝓜 s (readAt 𝓜 s w (end 𝓜 s w c) k .after)
+      go : (k : Kind) → cell 𝓜 s w (end 𝓜 s w c) ≡ k → (onEx false (λ o e n st a. readSends st) k && leb (𝓜 .slots) (lowestEmptySlot 𝓜 s)) ≡ false
+          → Makes 𝓜 s (readAt 𝓜 s w (end 𝓜 s w c) k .after)
       go Free q t = nothing
       go Var q t = nothing
       go (Val n) q t = nothing
@@ -244,7 +262,8 @@ module _ (𝓜 : Machine) (L : Laws 𝓜) (s : Tables) (F : Facts 𝓜 s) where
       go (Ex o e n Reading a) q t = nothing
       go (Ex o e n (Known v) a) q t = nothing
 
-  ask-sent : (w x o e n : ℕ) (st : Status) → cell 𝓜 s w x ≡ Ex o e n st false → leb (𝓜 .slots) (lowestEmptySlot 𝓜 s) ≡ false → Makes 𝓜 s (putMessage (putCell 𝓜 s w x (Ex o e n st true)) (lowestEmptySlot 𝓜 s) (Ask w x o e))
+  ask-sent : (w x o e n : ℕ) (st : Status) → cell 𝓜 s w x ≡ Ex o e n st false → leb (𝓜 .slots) (lowestEmptySlot 𝓜 s) ≡ false
+      → Makes 𝓜 s (putMessage (putCell 𝓜 s w x (Ex o e n st true)) (lowestEmptySlot 𝓜 s) (Ask w x o e))
   ask-sent w x o e n st q full =
       let k = lowestEmptySlot 𝓜 s in
       let slot = empty-slot 𝓜 L s F full in
@@ -269,7 +288,8 @@ module _ (𝓜 : Machine) (L : Laws 𝓜) (s : Tables) (F : Facts 𝓜 s) where
       after-checked (Makes 𝓜 s) s (askRefusals 𝓜 s w c) (onEx (record { outcome = Waiting; after = s }) (askEx 𝓜 s w (end 𝓜 s w c)) (cell 𝓜 s w (end 𝓜 s w c))) nothing
       (λ p. go (cell 𝓜 s w (end 𝓜 s w c)) refl (search))
     where
-      go : (k : Kind) → cell 𝓜 s w (end 𝓜 s w c) ≡ k → (not (isAsking k) && leb (𝓜 .slots) (lowestEmptySlot 𝓜 s)) ≡ false → Makes 𝓜 s (onEx (record { outcome = Waiting; after = s }) (askEx 𝓜 s w (end 𝓜 s w c)) k .after)
+      go : (k : Kind) → cell 𝓜 s w (end 𝓜 s w c) ≡ k → (not (isAsking k) && leb (𝓜 .slots) (lowestEmptySlot 𝓜 s)) ≡ false
+          → Makes 𝓜 s (onEx (record { outcome = Waiting; after = s }) (askEx 𝓜 s w (end 𝓜 s w c)) k .after)
       go Free q t = nothing
       go Var q t = nothing
       go (Val n) q t = nothing

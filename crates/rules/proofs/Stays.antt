@@ -48,7 +48,8 @@ module _ (𝓜 : Machine) (s : Tables) (h : Move) (F : Facts 𝓜 s) (K : Keeps 
           let here = ap₂ (entry 𝓜 s) (sym (q .0)) (sym (q .1)) ∙ K .placed .old-entry in
           absurd-bool l (ap isLive here ∙ dead)
 
-  made : (r : ℕ → ℕ → ℕ) → Ranked 𝓜 s r → isLive (h .x₀) ≡ false → isLive (h .x) ≡ true → (h .o ≤ nextRank r (h .o) (h .e)) × (isTainted (h .x) ≡ false → nextRank r (h .o) (h .e) ≡ h .o) × ((o e : ℕ) → isLive (entry 𝓜 s o e) ≡ true → follow 𝓜 (next 𝓜 s h) (At (h .o) (h .e)) ≡ At o e → r o e < nextRank r (h .o) (h .e))
+  made : (r : ℕ → ℕ → ℕ) → Ranked 𝓜 s r → isLive (h .x₀) ≡ false → isLive (h .x) ≡ true
+      → (h .o ≤ nextRank r (h .o) (h .e)) × (isTainted (h .x) ≡ false → nextRank r (h .o) (h .e) ≡ h .o) × ((o e : ℕ) → isLive (entry 𝓜 s o e) ≡ true → follow 𝓜 (next 𝓜 s h) (At (h .o) (h .e)) ≡ At o e → r o e < nextRank r (h .o) (h .e))
   unfolding nextRank newRank isNew rankAt
   made r R dead live =
       let new : isNew (h .o) (h .e) ≡ true = rw (dead, eq-both (h .o) (h .e)) in
@@ -59,7 +60,8 @@ module _ (𝓜 : Machine) (s : Tables) (h : Move) (F : Facts 𝓜 s) (K : Keeps 
       at-least true = omega arith
       at-least false = omega arith
 
-      above : (t : Bool) → isTainted (h .x) ≡ t → (o e : ℕ) → isLive (entry 𝓜 s o e) ≡ true → follow 𝓜 (next 𝓜 s h) (At (h .o) (h .e)) ≡ At o e → r o e < cond t (suc (h .o + rankAt r (follow 𝓜 (next 𝓜 s h) (At (h .o) (h .e))))) (h .o)
+      above : (t : Bool) → isTainted (h .x) ≡ t → (o e : ℕ) → isLive (entry 𝓜 s o e) ≡ true → follow 𝓜 (next 𝓜 s h) (At (h .o) (h .e)) ≡ At o e
+          → r o e < cond t (suc (h .o + rankAt r (follow 𝓜 (next 𝓜 s h) (At (h .o) (h .e))))) (h .o)
       above true u o e l q = omega (arith, ap (rankAt r) q)
       above false u o e l q =
           let F′ = facts-kept 𝓜 s h F K in
@@ -90,5 +92,6 @@ invariant-made 𝓜 s t I (nothing) = I
 invariant-made 𝓜 s t I (moved h K C) = invariant-kept 𝓜 s h I K C
 
 -- where the change makes no entry, the rank itself stays
-pub rank-kept : (𝓜 : Machine) (s : Tables) (h : Move) (F : Facts 𝓜 s) (K : Keeps 𝓜 s h) (r : ℕ → ℕ → ℕ) → Ranked 𝓜 s r → (isLive (h .x) ≡ true → isLive (h .x₀) ≡ true) → Ranked 𝓜 (next 𝓜 s h) r
+pub rank-kept : (𝓜 : Machine) (s : Tables) (h : Move) (F : Facts 𝓜 s) (K : Keeps 𝓜 s h) (r : ℕ → ℕ → ℕ) → Ranked 𝓜 s r
+    → (isLive (h .x) ≡ true → isLive (h .x₀) ≡ true) → Ranked 𝓜 (next 𝓜 s h) r
 rank-kept 𝓜 s h F K r R old = ranked-by 𝓜 s h F K r R r (λ a b l. refl) (λ dead live. absurd-bool (old live) dead)

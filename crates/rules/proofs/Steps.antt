@@ -107,7 +107,8 @@ module _ (𝓜 : Machine) (L : Laws 𝓜) (s : Tables) (F : Facts 𝓜 s) where
       let less = ltb-true (lowest (𝓜 .cells) (λ c. isFree (cell 𝓜 s w c))) (𝓜 .cells) (some-of (𝓜 .cells) (λ c. isFree (cell 𝓜 s w c)) (r .0) (r .1) (bit-one (isFree (cell 𝓜 s w (r .0))) (r .2))) in
       (less, free-is (cell 𝓜 s w (lowestFreeCell 𝓜 s w)) (lowest-at (𝓜 .cells) (λ c. isFree (cell 𝓜 s w c)) less))
 
-  pub free-entry : (w : ℕ) → leb (𝓜 .entries) (lowestFreeEntry 𝓜 s w) ≡ false → (lowestFreeEntry 𝓜 s w < 𝓜 .entries) × (entry 𝓜 s w (lowestFreeEntry 𝓜 s w) ≡ Unused)
+  pub free-entry : (w : ℕ) → leb (𝓜 .entries) (lowestFreeEntry 𝓜 s w) ≡ false
+      → (lowestFreeEntry 𝓜 s w < 𝓜 .entries) × (entry 𝓜 s w (lowestFreeEntry 𝓜 s w) ≡ Unused)
   unfolding lowestFreeEntry
   free-entry w h =
       let less = leb-false (𝓜 .entries) (lowestFreeEntry 𝓜 s w) h in
@@ -124,7 +125,8 @@ module _ (𝓜 : Machine) (L : Laws 𝓜) (s : Tables) (F : Facts 𝓜 s) where
   has-room to h = leb-false (freeCells 𝓜 s to) (booked s to) h
 
   -- a Reference sent to a worker that has room
-  pub room-sent : (to o e n : ℕ) → booked s to < freeCells 𝓜 s to → (v : ℕ) → booked s v + bit (goesTo v (Reference to o e n)) ≤ freeCells 𝓜 s v + bit (goesTo v Empty)
+  pub room-sent : (to o e n : ℕ) → booked s to < freeCells 𝓜 s to → (v : ℕ)
+      → booked s v + bit (goesTo v (Reference to o e n)) ≤ freeCells 𝓜 s v + bit (goesTo v Empty)
   room-sent to o e n h v = go (eqb to v) refl
     where
       go : (b : Bool) → eqb to v ≡ b → booked s v + bit b ≤ freeCells 𝓜 s v + 0
@@ -152,23 +154,27 @@ module _ (𝓜 : Machine) (L : Laws 𝓜) (s : Tables) (F : Facts 𝓜 s) where
           absurd-bool t (not-busy 𝓜 s w c x y (ap isReading q) (ap isAsking q))
 
   -- ---- the rules' stores are moves
-  pub makes-cell : (w c : ℕ) (k₀ k : Kind) → CellMoves 𝓜 L s w c k₀ k 0 (message s 0) (message s 0) → Carries 𝓜 s (cellMove 𝓜 s w c k₀ k 0 (message s 0) (message s 0)) → Makes 𝓜 s (putCell 𝓜 s w c k)
+  pub makes-cell : (w c : ℕ) (k₀ k : Kind) → CellMoves 𝓜 L s w c k₀ k 0 (message s 0) (message s 0)
+      → Carries 𝓜 s (cellMove 𝓜 s w c k₀ k 0 (message s 0) (message s 0)) → Makes 𝓜 s (putCell 𝓜 s w c k)
   makes-cell w c k₀ k M C =
       subst (Makes 𝓜 s) (put-cell 𝓜 L s w c k₀ k (M .w-in) (M .c-in))
       (moved (cellMove 𝓜 s w c k₀ k 0 (message s 0) (message s 0)) (cell-keeps 𝓜 L s F w c k₀ k 0 (message s 0) (message s 0) M) C)
 
-  pub makes-cell-message : (w c : ℕ) (k₀ k : Kind) (i : ℕ) (m₀ m : Message) → CellMoves 𝓜 L s w c k₀ k i m₀ m → Carries 𝓜 s (cellMove 𝓜 s w c k₀ k i m₀ m) → Makes 𝓜 s (putMessage (putCell 𝓜 s w c k) i m)
+  pub makes-cell-message : (w c : ℕ) (k₀ k : Kind) (i : ℕ) (m₀ m : Message) → CellMoves 𝓜 L s w c k₀ k i m₀ m
+      → Carries 𝓜 s (cellMove 𝓜 s w c k₀ k i m₀ m) → Makes 𝓜 s (putMessage (putCell 𝓜 s w c k) i m)
   makes-cell-message w c k₀ k i m₀ m M C =
       subst (Makes 𝓜 s) (put-cell-message 𝓜 L s w c k₀ k i m₀ m (M .w-in) (M .c-in))
       (moved (cellMove 𝓜 s w c k₀ k i m₀ m) (cell-keeps 𝓜 L s F w c k₀ k i m₀ m M) C)
 
-  pub makes-ex : (w c o e n₀ n : ℕ) (st₀ st : Status) (a₀ a : Bool) (i : ℕ) (m₀ m : Message) → ExMoves 𝓜 L s F w c o e n₀ n st₀ st a₀ a i m₀ m → Carries 𝓜 s (cellMove 𝓜 s w c (Ex o e n₀ st₀ a₀) (Ex o e n st a) i m₀ m) → Makes 𝓜 s (putMessage (putCell 𝓜 s w c (Ex o e n st a)) i m)
+  pub makes-ex : (w c o e n₀ n : ℕ) (st₀ st : Status) (a₀ a : Bool) (i : ℕ) (m₀ m : Message) → ExMoves 𝓜 L s F w c o e n₀ n st₀ st a₀ a i m₀ m
+      → Carries 𝓜 s (cellMove 𝓜 s w c (Ex o e n₀ st₀ a₀) (Ex o e n st a) i m₀ m) → Makes 𝓜 s (putMessage (putCell 𝓜 s w c (Ex o e n st a)) i m)
   makes-ex w c o e n₀ n st₀ st a₀ a i m₀ m M C =
       let inside = cell-inside 𝓜 s w c (ap isFree (M .old-cell)) in
       subst (Makes 𝓜 s) (put-cell-message 𝓜 L s w c (Ex o e n₀ st₀ a₀) (Ex o e n st a) i m₀ m (inside .0) (inside .1))
       (moved (cellMove 𝓜 s w c (Ex o e n₀ st₀ a₀) (Ex o e n st a) i m₀ m) (ex-keeps 𝓜 L s F w c o e n₀ n st₀ st a₀ a i m₀ m M) C)
 
-  pub makes-entry : (o e : ℕ) (x₀ x : Holding) (i : ℕ) (m₀ m : Message) → EntryMoves 𝓜 L s F o e x₀ x i m₀ m → Carries 𝓜 s (entryMove 𝓜 s o e x₀ x i m₀ m) → Makes 𝓜 s (putMessage (putEntry 𝓜 s o e x) i m)
+  pub makes-entry : (o e : ℕ) (x₀ x : Holding) (i : ℕ) (m₀ m : Message) → EntryMoves 𝓜 L s F o e x₀ x i m₀ m
+      → Carries 𝓜 s (entryMove 𝓜 s o e x₀ x i m₀ m) → Makes 𝓜 s (putMessage (putEntry 𝓜 s o e x) i m)
   makes-entry o e x₀ x i m₀ m M C =
       subst (Makes 𝓜 s) (put-entry-message 𝓜 L s o e x₀ x i m₀ m (M .o-in) (M .e-in))
       (moved (entryMove 𝓜 s o e x₀ x i m₀ m) (entry-keeps 𝓜 L s F o e x₀ x i m₀ m M) C)

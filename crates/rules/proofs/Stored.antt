@@ -35,7 +35,8 @@ spot w c v d = go (ℕ-discrete w v) (ℕ-discrete c d)
 
 module _ {A : Type 0} {old new : ℕ → ℕ → A} {w c : ℕ} {a b : A} (S : Stored old new w c a b) where
   -- what holds of the place stored at, and of each place that stays, holds of every place
-  pub stored-each : (R : ℕ → ℕ → A → A → Type 0) → R w c a b → ((v d : ℕ) → (w ≡ v → c ≡ d → ⊥) → R v d (old v d) (old v d)) → (v d : ℕ) → R v d (old v d) (new v d)
+  pub stored-each : (R : ℕ → ℕ → A → A → Type 0) → R w c a b → ((v d : ℕ) → (w ≡ v → c ≡ d → ⊥) → R v d (old v d) (old v d)) → (v d : ℕ)
+      → R v d (old v d) (new v d)
   stored-each R changed stays v d = go (spot w c v d)
     where
       go : ((w ≡ v) × (c ≡ d)) ⊎ (w ≡ v → c ≡ d → ⊥) → R v d (old v d) (new v d)
@@ -58,7 +59,8 @@ module _ {A : Type 0} {old new : ℕ → ℕ → A} {w c : ℕ} {a b : A} (S : S
       (λ v d f. rw (not-yes (λ t. let q = both-eq w v c d t in f (q .0) (q .1))))
 
   -- and added up over a row
-  pub stored-row : (n : ℕ) → c < n → (g : A → ℕ) (v : ℕ) → sumBelow n (λ d. g (new v d)) + cond (eqb w v) (g a) 0 ≡ sumBelow n (λ d. g (old v d)) + cond (eqb w v) (g b) 0
+  pub stored-row : (n : ℕ) → c < n → (g : A → ℕ) (v : ℕ)
+      → sumBelow n (λ d. g (new v d)) + cond (eqb w v) (g a) 0 ≡ sumBelow n (λ d. g (old v d)) + cond (eqb w v) (g b) 0
   stored-row n cn g v = go (eqb w v) refl
     where
       go : (t : Bool) → eqb w v ≡ t → sumBelow n (λ d. g (new v d)) + cond t (g a) 0 ≡ sumBelow n (λ d. g (old v d)) + cond t (g b) 0
@@ -69,7 +71,8 @@ module _ {A : Type 0} {old new : ℕ → ℕ → A} {w c : ℕ} {a b : A} (S : S
           omega (arith, sum-cong n (λ d. g (new v d)) (λ d. g (old v d)) (λ d l. ap g (S .there v d (λ i j. eqb-false w v t i))))
 
   -- at most one place of a row has p
-  pub stored-once : (p : A → Bool) → ((v x y : ℕ) → p (old v x) ≡ true → p (old v y) ≡ true → x ≡ y) → ((y : ℕ) → p b ≡ true → p (old w y) ≡ true → y ≡ c) → (v x y : ℕ) → p (new v x) ≡ true → p (new v y) ≡ true → x ≡ y
+  pub stored-once : (p : A → Bool) → ((v x y : ℕ) → p (old v x) ≡ true → p (old v y) ≡ true → x ≡ y)
+      → ((y : ℕ) → p b ≡ true → p (old w y) ≡ true → y ≡ c) → (v x y : ℕ) → p (new v x) ≡ true → p (new v y) ≡ true → x ≡ y
   stored-once p once fresh v x y t u =
       stored-each (λ r z k j. p j ≡ true → (y : ℕ) → p (new r y) ≡ true → z ≡ y)
       (λ t y. stored-each (λ r z k j. w ≡ r → p j ≡ true → c ≡ z) (λ i u. refl) (λ r z f i u. sym (fresh z t (rw i u))) w y refl)
@@ -81,7 +84,8 @@ module _ {X A : Type 0} (read : X → A) (free : A) (blank : X) (m n : ℕ) wher
   abbrev pub rows : List X → ℕ → ℕ → A
   rows l v d = cond (ltb v m && ltb d n) (read (getD l (v * n + d) blank)) free
 
-  pub rows-stored : (l : List X) (w c : ℕ) (a : A) (x : X) → length l ≡ m * n → w < m → c < n → rows l w c ≡ a → Stored (rows l) (rows (set l (w * n + c) x)) w c a (read x)
+  pub rows-stored : (l : List X) (w c : ℕ) (a : A) (x : X) → length l ≡ m * n → w < m → c < n → rows l w c ≡ a
+      → Stored (rows l) (rows (set l (w * n + c) x)) w c a (read x)
   rows-stored l w c a x long wm cn was =
       record {
         was = was;
@@ -89,6 +93,7 @@ module _ {X A : Type 0} (read : X → A) (free : A) (blank : X) (m n : ℕ) wher
         there = λ v d f. inside v d (ltb v m && ltb d n) (λ t. let dn = ltb-true d n (and-r (ltb v m) (ltb d n) t) in λ e. f (grid-row n w c v d cn dn (sym e)) (grid-column n w c v d cn dn (sym e)));
       }
     where
-      inside : (v d : ℕ) (b : Bool) → (b ≡ true → v * n + d ≢ w * n + c) → cond b (read (getD (set l (w * n + c) x) (v * n + d) blank)) free ≡ cond b (read (getD l (v * n + d) blank)) free
+      inside : (v d : ℕ) (b : Bool) → (b ≡ true → v * n + d ≢ w * n + c)
+          → cond b (read (getD (set l (w * n + c) x) (v * n + d) blank)) free ≡ cond b (read (getD l (v * n + d) blank)) free
       inside v d true ne = ap read (getD-set-other l (w * n + c) (v * n + d) x blank (ne refl))
       inside v d false ne = refl

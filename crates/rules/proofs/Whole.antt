@@ -164,7 +164,8 @@ module _ (𝓜 : Machine) (L : Laws 𝓜) where
   few-succeed s I r R [] = omega arith
   few-succeed s I r R (k ∷ ks) = go (delivery s I k) (λ t J Q. few-succeed t J r Q ks)
     where
-      go : Delivery s k → ((t : Tables) → Invariant 𝓜 t → Ranked 𝓜 t r → successes 𝓜 t ks ≤ measure 𝓜 t r) → bit (delivers 𝓜 s k) + successes 𝓜 (deliver 𝓜 s k .after) ks ≤ measure 𝓜 s r
+      go : Delivery s k → ((t : Tables) → Invariant 𝓜 t → Ranked 𝓜 t r → successes 𝓜 t ks ≤ measure 𝓜 t r)
+          → bit (delivers 𝓜 s k) + successes 𝓜 (deliver 𝓜 s k .after) ks ≤ measure 𝓜 s r
       go (refused a b c) rec =
           let rest : successes 𝓜 (deliver 𝓜 s k .after) ks ≤ measure 𝓜 s r = subst (λ (t : Tables). successes 𝓜 t ks ≤ measure 𝓜 s r) (sym c) (rec s I R) in
           omega (arith, ap bit b)
@@ -185,7 +186,8 @@ module _ (𝓜 : Machine) (L : Laws 𝓜) where
       omega (arith, few-succeed s I (I .rank) (I .ranked) ks, measure-bound 𝓜 L s (I .facts) (I .rank))
 
   -- ---- rest is reached: each ready message that is taken lowers the measure
-  rest-within : (n : ℕ) (s : Tables) (I : Invariant 𝓜 s) (r : ℕ → ℕ → ℕ) → Ranked 𝓜 s r → measure 𝓜 s r ≤ n → (slot : ℕ → ℕ) → TakesReady 𝓜 s slot → (i : ℕ) × (i ≤ n) × AtRest 𝓜 (drained 𝓜 s (slotsTaken 𝓜 slot i))
+  rest-within : (n : ℕ) (s : Tables) (I : Invariant 𝓜 s) (r : ℕ → ℕ → ℕ) → Ranked 𝓜 s r → measure 𝓜 s r ≤ n → (slot : ℕ → ℕ) → TakesReady 𝓜 s slot
+      → (i : ℕ) × (i ≤ n) × AtRest 𝓜 (drained 𝓜 s (slotsTaken 𝓜 slot i))
   unfolding drained slotsTaken
   rest-within zero s I r R few slot takes = go (takes 0) (delivery s I (slot 0))
     where
@@ -199,7 +201,9 @@ module _ (𝓜 : Machine) (L : Laws 𝓜) where
       later : ℕ → ℕ
       later i = slot (suc i)
 
-      go : AtRest 𝓜 s ⊎ (holdsReady 𝓜 s (slot 0) ≡ true) → Delivery s (slot 0) → ((t : Tables) → Invariant 𝓜 t → Ranked 𝓜 t r → measure 𝓜 t r ≤ n → (sl : ℕ → ℕ) → TakesReady 𝓜 t sl → (i : ℕ) × (i ≤ n) × AtRest 𝓜 (drained 𝓜 t (slotsTaken 𝓜 sl i))) → (i : ℕ) × (i ≤ suc n) × AtRest 𝓜 (drained 𝓜 s (slotsTaken 𝓜 slot i))
+      go : AtRest 𝓜 s ⊎ (holdsReady 𝓜 s (slot 0) ≡ true) → Delivery s (slot 0)
+          → ((t : Tables) → Invariant 𝓜 t → Ranked 𝓜 t r → measure 𝓜 t r ≤ n → (sl : ℕ → ℕ) → TakesReady 𝓜 t sl → (i : ℕ) × (i ≤ n) × AtRest 𝓜 (drained 𝓜 t (slotsTaken 𝓜 sl i)))
+          → (i : ℕ) × (i ≤ suc n) × AtRest 𝓜 (drained 𝓜 s (slotsTaken 𝓜 slot i))
       go (inl rest) d rec = (0, omega arith, rest)
       go (inr is-ready) (refused a b c) rec = absurd-bool is-ready a
       go (inr is-ready) (arrives a b c) rec =
@@ -270,7 +274,8 @@ module _ (𝓜 : Machine) (L : Laws 𝓜) where
   told-drained s [] w c o e v I t = t
   told-drained s (k ∷ ks) w c o e v I t = go (delivery s I k) (λ y J u. told-drained y ks w c o e v J u)
     where
-      go : Delivery s k → ((y : Tables) → Invariant 𝓜 y → Told y w c o e v → Told (drained 𝓜 y ks) w c o e v) → Told (drained 𝓜 (deliver 𝓜 s k .after) ks) w c o e v
+      go : Delivery s k → ((y : Tables) → Invariant 𝓜 y → Told y w c o e v → Told (drained 𝓜 y ks) w c o e v)
+          → Told (drained 𝓜 (deliver 𝓜 s k .after) ks) w c o e v
       go (refused a b q) rec = subst (λ (y : Tables). Told (drained 𝓜 y ks) w c o e v) (sym q) (rec s I t)
       go (arrives a b q) rec =
           let x = message-arrives 𝓜 L s I (I .rank) (I .ranked) k (message s k) refl a b in

@@ -6,7 +6,7 @@
 -- refused ones skipped (`drained`, `successes`).
 use Prim.Native.Nat.{ℕ, zero, suc, _≤_, _<_}
 use mathlib.Core.Path.{_≡_}
-use mathlib.Core.Bool.{Bool, true, false, _&&_, _||_, not}
+use mathlib.Core.Bool.{Bool, true, false, _&&_, not}
 use mathlib.Core.List.{List, [], _∷_}
 use mathlib.Core.Logic.{_⊎_}
 use lib.Dec.{eqb}
@@ -17,7 +17,7 @@ use Rattle.tables.specs.declared.Message.the-variants.{Empty, Reference, Releas
 use Rattle.tables.specs.declared.Place.the-variants.{At}
 use Rattle.tables.specs.declared.Call.{Call}
 use Rattle.tables.specs.Machine.{Machine, Tables}
-use Rattle.tables.specs.Parts.{isFree, isVar, isVal, exNames, isLive, isTainted, entryNames, cellOf, entryWeight, isEmpty}
+use Rattle.tables.specs.Parts.{isFree, isVar, exNames, isLive, isTainted, entryNames, cellOf, entryWeight, isEmpty}
 use Rattle.tables.specs.Look.{cell, entry, liveEntries, message}
 use Rattle.rules.specs.Answers.{succeeds}
 use Rattle.rules.specs.Sound.{held, sound}
@@ -122,14 +122,16 @@ module _ (𝓜 : Machine) where
 
   abbrev pub Brought : Type 0
   Brought =
-      (s : Tables) → Reached 𝓜 s → (w c o e n v : ℕ) (a : Bool) → cell 𝓜 s w c ≡ Ex o e n Reading a → EndsIn 𝓜 s (At o e) v → (ks : List ℕ) → AtRest (drained 𝓜 s ks) → KnownWith (drained 𝓜 s ks) w c o e v
+      (s : Tables) → Reached 𝓜 s → (w c o e n v : ℕ) (a : Bool) → cell 𝓜 s w c ≡ Ex o e n Reading a → EndsIn 𝓜 s (At o e) v → (ks : List ℕ)
+      → AtRest (drained 𝓜 s ks) → KnownWith (drained 𝓜 s ks) w c o e v
 
   -- ---- A reference keeps its context
 
   -- Whatever refers to an entry, an EX or a message, refers to a live one,
   abbrev pub RefersToLive : Type 0
   RefersToLive =
-      (s : Tables) → Reached 𝓜 s → (o e : ℕ) → ((w c : ℕ) → exNames o e (cell 𝓜 s w c) ≡ true → isLive (entry 𝓜 s o e) ≡ true) × ((k : ℕ) → messageNames o e (message s k) ≡ true → isLive (entry 𝓜 s o e) ≡ true)
+      (s : Tables) → Reached 𝓜 s → (o e : ℕ)
+      → ((w c : ℕ) → exNames o e (cell 𝓜 s w c) ≡ true → isLive (entry 𝓜 s o e) ≡ true) × ((k : ℕ) → messageNames o e (message s k) ≡ true → isLive (entry 𝓜 s o e) ≡ true)
 
   -- and by `NoLoops` that entry leads to a context. From one state to the next the context is what it was, or a variable that has been given
   -- a value, or bound.
@@ -144,14 +146,16 @@ module _ (𝓜 : Machine) where
     pub same-cell : cellOf (entry 𝓜 s′ o e) ≡ cellOf (entry 𝓜 s o e)
     pub same-taint : isTainted (entry 𝓜 s′ o e) ≡ isTainted (entry 𝓜 s o e)
     pub not-freed : isFree (cell 𝓜 s′ o (cellOf (entry 𝓜 s o e))) ≡ false
-    pub same-steps : (w c : ℕ) (l : LeadsTo 𝓜 s (At o e) w c) → (ahead 𝓜 s′ (l .steps) (At o e) ≡ At w (l .number)) × (entryNames c (entry 𝓜 s′ w (l .number)) ≡ true)
+    pub same-steps : (w c : ℕ) (l : LeadsTo 𝓜 s (At o e) w c)
+        → (ahead 𝓜 s′ (l .steps) (At o e) ≡ At w (l .number)) × (entryNames c (entry 𝓜 s′ w (l .number)) ≡ true)
     pub same-context : (w c : ℕ) → LeadsTo 𝓜 s (At o e) w c → Continues s s′ w c
 
   -- So no number that something still refers to is ever given out again: between two uses of it lies a state in which it is free, and to a
   -- free one nothing refers.
   abbrev pub ReferenceKeepsContext : Type 0
   ReferenceKeepsContext =
-      (s : Tables) → Reached 𝓜 s → (q : Call) → isStart q ≡ false → (o e : ℕ) → isLive (entry 𝓜 s o e) ≡ true → isLive (entry 𝓜 (step 𝓜 s q .after) o e) ≡ true → KeepsContext s (step 𝓜 s q .after) o e
+      (s : Tables) → Reached 𝓜 s → (q : Call) → isStart q ≡ false → (o e : ℕ) → isLive (entry 𝓜 s o e) ≡ true
+      → isLive (entry 𝓜 (step 𝓜 s q .after) o e) ≡ true → KeepsContext s (step 𝓜 s q .after) o e
 
   -- Demand 3, whole, and that a reference keeps its context.
   pub record Demand3 : Type 0 where

@@ -50,7 +50,8 @@ module _ (𝓜 : Machine) (s : Tables) where
   pub followed-none : (l : List Step) → length l ≡ 𝓜 .workers * 𝓜 .entries → Followed l 0
   followed-none l h = record { size = h; at = λ j k. absurd (omega arith) }
 
-  pub followed-more : {l : List Step} {n : ℕ} {p : Place} → Followed l n → n < 𝓜 .workers * 𝓜 .entries → p ≡ follow 𝓜 s (At (n / 𝓜 .entries) (n % 𝓜 .entries)) → Followed (set l n (record { next = p })) (n + 1)
+  pub followed-more : {l : List Step} {n : ℕ} {p : Place} → Followed l n → n < 𝓜 .workers * 𝓜 .entries
+      → p ≡ follow 𝓜 s (At (n / 𝓜 .entries) (n % 𝓜 .entries)) → Followed (set l n (record { next = p })) (n + 1)
   followed-more {l} {n} {p} f h e =
       record {
         size = simp length-set (f .size);
@@ -65,7 +66,8 @@ module _ (𝓜 : Machine) (s : Tables) where
   through-unused w Unused h e = refl
   through-unused w (Live c n t) h e = absurd-bool e h
 
-  through-live : (w : ℕ) {b : Bool} (x : Holding) → b ≡ isUnused x → b ≡ false → namedBy (cell 𝓜 s w (endFrom (cell 𝓜 s w (cellOf x)) (cellOf x))) ≡ through 𝓜 s w x
+  through-live : (w : ℕ) {b : Bool} (x : Holding) → b ≡ isUnused x → b ≡ false
+      → namedBy (cell 𝓜 s w (endFrom (cell 𝓜 s w (cellOf x)) (cellOf x))) ≡ through 𝓜 s w x
   unfolding endKind end
   through-live w Unused h e = absurd-bool h e
   through-live w (Live c n t) h e = refl
@@ -96,16 +98,19 @@ module _ (𝓜 : Machine) (s : Tables) where
   step-by l f Nowhere = refl
   step-by l f (At o e) = ⊎-elim within outside (or-else (ltb o (𝓜 .workers) && ltb e (𝓜 .entries)))
     where
-      within : (ltb o (𝓜 .workers) && ltb e (𝓜 .entries)) ≡ true → cond (ltb o (𝓜 .workers) && ltb e (𝓜 .entries)) (nextAt l (cond (ltb o (𝓜 .workers) && ltb e (𝓜 .entries)) (o * 𝓜 .entries + e) 0)) Nowhere ≡ through 𝓜 s o (entry 𝓜 s o e)
+      within : (ltb o (𝓜 .workers) && ltb e (𝓜 .entries)) ≡ true
+          → cond (ltb o (𝓜 .workers) && ltb e (𝓜 .entries)) (nextAt l (cond (ltb o (𝓜 .workers) && ltb e (𝓜 .entries)) (o * 𝓜 .entries + e) 0)) Nowhere ≡ through 𝓜 s o (entry 𝓜 s o e)
       within h =
           let ow : o < 𝓜 .workers = ltb-true o (𝓜 .workers) (and-l (ltb o (𝓜 .workers)) (ltb e (𝓜 .entries)) h) in
           let el : e < 𝓜 .entries = ltb-true e (𝓜 .entries) (and-r (ltb o (𝓜 .workers)) (ltb e (𝓜 .entries)) h) in
           rw h (f .at (o * 𝓜 .entries + e) (digits-lt ow el) ∙ ap₂ (λ (a b : ℕ). follow 𝓜 s (At a b)) (digits-div o el) (digits-mod o el))
 
-      outside : (ltb o (𝓜 .workers) && ltb e (𝓜 .entries)) ≡ false → cond (ltb o (𝓜 .workers) && ltb e (𝓜 .entries)) (nextAt l (cond (ltb o (𝓜 .workers) && ltb e (𝓜 .entries)) (o * 𝓜 .entries + e) 0)) Nowhere ≡ through 𝓜 s o (entry 𝓜 s o e)
+      outside : (ltb o (𝓜 .workers) && ltb e (𝓜 .entries)) ≡ false
+          → cond (ltb o (𝓜 .workers) && ltb e (𝓜 .entries)) (nextAt l (cond (ltb o (𝓜 .workers) && ltb e (𝓜 .entries)) (o * 𝓜 .entries + e) 0)) Nowhere ≡ through 𝓜 s o (entry 𝓜 s o e)
       outside h = rw (h, entry-out o e h)
 
   -- and so is the walk
-  pub reached-by : (l : List Step) → Followed l (𝓜 .workers * 𝓜 .entries) → (from : Place) (o e : ℕ) → walkMeets (isAt o e) (stepBy 𝓜 l) (𝓜 .workers * 𝓜 .entries) from ≡ reached 𝓜 s from o e
+  pub reached-by : (l : List Step) → Followed l (𝓜 .workers * 𝓜 .entries) → (from : Place) (o e : ℕ)
+      → walkMeets (isAt o e) (stepBy 𝓜 l) (𝓜 .workers * 𝓜 .entries) from ≡ reached 𝓜 s from o e
   unfolding reached
   reached-by l f from o e = walk-cong (isAt o e) (stepBy 𝓜 l) (follow 𝓜 s) (step-by l f) (𝓜 .workers * 𝓜 .entries) from

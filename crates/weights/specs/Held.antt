@@ -56,7 +56,8 @@ module _ (𝓜 : Machine) (s : Tables) (o e : ℕ) where
   message-holds (Supply a c n) = refl
 
   -- step by step as the code reads
-  pub message-holds-by : {w c n : ℕ} {k : Kind} (m : Message) → w ≡ waiterOf m → c ≡ cellFor m → k ≡ cell 𝓜 s w c → n ≡ messageHoldsSeen o e k m → n ≡ messageHolds 𝓜 s o e m
+  pub message-holds-by : {w c n : ℕ} {k : Kind} (m : Message) → w ≡ waiterOf m → c ≡ cellFor m → k ≡ cell 𝓜 s w c → n ≡ messageHoldsSeen o e k m
+      → n ≡ messageHolds 𝓜 s o e m
   message-holds-by m w c k h = rw (k, w, c) at h ∙ message-holds m
 
   pub nothing-held : {b : Bool} (m : Message) → b ≡ holdsNothing m → b ≡ true → messageHolds 𝓜 s o e m ≡ 0
@@ -71,7 +72,8 @@ module _ (𝓜 : Machine) (s : Tables) (o e : ℕ) where
   cells-hold : {n : ℕ} → length (s .cells) ≡ n → sumBelow n (λ j. cellHolds 𝓜 s o e (kindAt (s .cells) j)) ≡ total (λ x. cellHolds 𝓜 s o e (x .kind)) (s .cells)
   cells-hold h = sym (rw h at (total-below (λ x. cellHolds 𝓜 s o e (x .kind)) (s .cells) (record { kind = Free })))
 
-  messages-hold : {n : ℕ} → length (s .slots) ≡ n → sumBelow n (λ j. messageHolds 𝓜 s o e (messageAt (s .slots) j)) ≡ total (λ x. messageHolds 𝓜 s o e (x .message)) (s .slots)
+  messages-hold : {n : ℕ} → length (s .slots) ≡ n
+      → sumBelow n (λ j. messageHolds 𝓜 s o e (messageAt (s .slots) j)) ≡ total (λ x. messageHolds 𝓜 s o e (x .message)) (s .slots)
   messages-hold h = sym (rw h at (total-below (λ x. messageHolds 𝓜 s o e (x .message)) (s .slots) (record { message = Empty })))
 
   -- a free entry the point leaves alone

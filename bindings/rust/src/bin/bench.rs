@@ -2,12 +2,15 @@
 //! in the same run, as a table in Markdown.
 //!
 //! `bench [--seconds N]`: so many seconds for each input and program, 2 unless
-//! said otherwise.
+//! said otherwise. `bench --write FOLDER`: the inputs as files of frames, for
+//! other measurements, and nothing else.
 
 use endrusp::generate::Generator;
 use endrusp::model::{self, Call, Cell, LONGEST_INPUT, State};
 use std::env;
+use std::fs;
 use std::hint::black_box;
+use std::path::{Path, PathBuf};
 use std::process::ExitCode;
 use std::time::{Duration, Instant};
 
@@ -17,6 +20,8 @@ const ROUNDS: u32 = 10;
 /// An input and what the state is like while it runs.
 struct Input {
     name: &'static str,
+    /// What its file is called.
+    file: &'static str,
     text: Vec<u8>,
     frames: usize,
     /// Live cells, live entries and messages, on average over the frames.
@@ -30,15 +35,19 @@ fn main() -> ExitCode {
         eprintln!("the benchmark is to be built with --release");
         return ExitCode::from(2);
     }
-    let seconds = match seconds() {
-        Ok(seconds) => seconds,
+    let wanted = match wanted() {
+        Ok(wanted) => wanted,
         Err(message) => {
             eprintln!("{message}");
-            eprintln!("bench [--seconds N]");
+            eprintln!("bench [--seconds N | --write FOLDER]");
             return ExitCode::from(2);
         }
     };
     let inputs = [nearly_empty(), busy(), full_slots()];
+    let seconds = match wanted {
+        Wanted::Table(seconds) => seconds,
+        Wanted::Files(folder) => return write(&inputs, &folder),
+    };
     for input in &inputs {
         if endrusp::run(&input.text) != model::run_text(&input.text) {
             eprintln!("{}: library and model differ; run the differential test", input.name);
@@ -83,16 +92,39 @@ fn main() -> ExitCode {
     ExitCode::SUCCESS
 }
 
-fn seconds() -> Result<u64, String> {
+/// What the command line asks for.
+enum Wanted {
+    /// The table, with so many seconds for each input and program.
+    Table(u64),
+    /// The inputs as files in this folder.
+    Files(PathBuf),
+}
+
+fn wanted() -> Result<Wanted, String> {
     let words: Vec<String> = env::args().skip(1).collect();
     match words.iter().map(String::as_str).collect::<Vec<_>>().as_slice() {
-        [] => Ok(2),
+        [] => Ok(Wanted::Table(2)),
         ["--seconds", number] => match number.parse() {
-            Ok(seconds) if seconds > 0 => Ok(seconds),
+            Ok(seconds) if seconds > 0 => Ok(Wanted::Table(seconds)),
             _ => Err(format!("{number} is not a number above 0")),
         },
+        ["--write", folder] => Ok(Wanted::Files(PathBuf::from(folder))),
         _ => Err("these options are not known".to_string()),
     }
+}
+
+/// The inputs as files, and their names.
+fn write(inputs: &[Input], folder: &Path) -> ExitCode {
+    for input in inputs {
+        let path = folder.join(input.file);
+        if let Err(error) = fs::create_dir_all(folder).and_then(|()| fs::write(&path, &input.text))
+        {
+            eprintln!("{}: {error}", path.display());
+            return ExitCode::from(1);
+        }
+        println!("{}", path.display());
+    }
+    ExitCode::SUCCESS
 }
 
 // ------------------------------------------------------------------ the inputs
@@ -121,7 +153,7 @@ fn nearly_empty() -> Input {
         }
         round += 1;
     }
-    described("nearly empty, 2 workers", generator)
+    described("nearly empty, 2 workers", "nearly-empty.frames", generator)
 }
 
 /// Eight workers with tables about half full and messages on their way.
@@ -129,7 +161,7 @@ fn busy() -> Input {
     let mut generator = Generator::new(2, LONGEST_INPUT);
     generator.grow_busy();
     generator.stay_busy();
-    described("busy, 8 workers", generator)
+    described("busy, 8 workers", "busy.frames", generator)
 }
 
 /// The same with all 64 slots full, or one short of it.
@@ -137,11 +169,11 @@ fn full_slots() -> Input {
     let mut generator = Generator::new(3, LONGEST_INPUT);
     generator.grow_busy();
     generator.stay_full();
-    described("full slots, 8 workers", generator)
+    described("full slots, 8 workers", "full-slots.frames", generator)
 }
 
 /// Runs the input once more, to see what is live.
-fn described(name: &'static str, generator: Generator) -> Input {
+fn described(name: &'static str, file: &'static str, generator: Generator) -> Input {
     let (text, _) = generator.finish();
     let mut state = State::closed();
     let mut sums = [0, 0, 0];
@@ -155,7 +187,7 @@ fn described(name: &'static str, generator: Generator) -> Input {
         sums[2] += state.messages().count();
     }
     let live = sums.map(|sum| sum as f64 / frames as f64);
-    Input { name, text, frames, live, refused: 100.0 * refusals as f64 / frames as f64 }
+    Input { name, file, text, frames, live, refused: 100.0 * refusals as f64 / frames as f64 }
 }
 
 // --------------------------------------------------------------- the measuring
