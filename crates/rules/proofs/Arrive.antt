@@ -1,6 +1,6 @@
 -- Deliveries: what becomes of each message keeps the invariant. Assumes nothing.
-use Prim.Native.Nat.{ℕ, zero, suc, _+_, _-_, _<_, _≤_, min}
-use native.Mathlib.Nat.{zero-add, suc-add, min-le-right}
+use Prim.Native.Nat.{ℕ, _+_, _-_, _<_, _≤_, min}
+use native.Mathlib.Nat.{min-le-right}
 use native.Mathlib.Omega.{arith}
 use mathlib.Core.Path.{_≡_, refl, sym, ap, subst, _∙_}
 use mathlib.Core.Bool.{Bool, true, false, _&&_, _||_, not, cond}
@@ -29,43 +29,35 @@ use Rattle.rules.specs.Sound.{readsFor, asksFor, messageHolds, held}
 use Rattle.rules.specs.Refusals.{ready, deliverRefusals}
 use Rattle.rules.specs.Deliver.{takenOff, joined, known, supplied, grown, readOn, arrivalCell, deliverHome, deliverAway, deliverRelease, deliverRead, deliverAnswer, deliverSupply, deliverAsk, deliverMessage, deliver}
 use Rattle.rules.specs.Machines.{Laws}
-use Rattle.rules.specs.Facts.{EntryFact, MessageFact, ReadAhead, KnownFact, AnswerFact}
+use Rattle.rules.specs.Facts.{EntryFact, MessageFact, Facts, ReadAhead, Reads, KnownFact, AnswerFact}
 use Rattle.rules.proofs.Inside.{cell-inside, entry-inside, message-total}
 use Rattle.rules.proofs.Named.{nowhere-at, the-live, ExOf, the-ex-of, eq-both, both-eq}
 use Rattle.rules.proofs.Derived.{live-fact, held-live, message-held, names-live, reading-cell, asking-cell, LivePlace, named-place, read-live}
-use Rattle.rules.specs.Move.{next, Keeps, Makes, nothing, Ranked, Invariant}
+use Rattle.rules.specs.Move.{next, Keeps, TrueValues, Makes, nothing}
 use Rattle.rules.proofs.Next.{cell-stored}
 use Rattle.rules.proofs.Kept.{facts-kept}
-use Rattle.rules.proofs.Onward.{follow-live, ahead-kept, ends-kept}
-use Rattle.rules.proofs.Count.{standing-some, standing-falls, EndIs, plain, leads, end-is}
-use Rattle.rules.proofs.Measure.{spends, status-same, kind-same, Arrived, arrived, arrived-cell, arrived-ex, arrived-entry}
-use Rattle.rules.proofs.Moves.{cellMove, entryMove, slotMove, put-message, ExMoves, ex-keeps, entry-keeps}
+use Rattle.rules.proofs.Walks.{follow-live, ahead-add, ends-before}
+use Rattle.rules.proofs.Onward.{ahead-kept, ends-kept}
+use Rattle.rules.proofs.Count.{standing-some, standing-falls}
+use Rattle.rules.proofs.Ends.{EndIs, plain, leads, end-is}
+use Rattle.rules.proofs.Measure.{spends, status-same, Delivers, delivers-makes, delivers-cell, delivers-ex, delivers-entry, delivers-slot}
+use Rattle.rules.proofs.Moves.{cellMove, entryMove, slotMove, ExMoves, ex-keeps, entry-keeps}
 use Rattle.rules.proofs.Steps.{after-checked, not-false, cond-add, free-cell, free-not-busy}
 use Rattle.rules.proofs.Local.{weight-some}
 use Rattle.rules.proofs.Entries.{cells-same, entries-same, entry-next}
-
--- ---- walks, one after the other
-pub ahead-add : (𝓜 : Machine) (s : Tables) (n k : ℕ) (p : Place) → ahead 𝓜 s (n + k) p ≡ ahead 𝓜 s k (ahead 𝓜 s n p)
-unfolding ahead
-ahead-add 𝓜 s zero k p = ap (λ (i : ℕ). ahead 𝓜 s i p) (zero-add k)
-ahead-add 𝓜 s (suc n) k p = ap (λ (i : ℕ). ahead 𝓜 s i p) (suc-add n k) ∙ ahead-add 𝓜 s n k (follow 𝓜 s p)
-
-pub ends-before : (𝓜 : Machine) (s : Tables) (n : ℕ) (p q : Place) (v : ℕ) → ahead 𝓜 s n p ≡ q → EndsIn 𝓜 s q v → EndsIn 𝓜 s p v
-ends-before 𝓜 s n p q v h x =
-    record { steps = n + x .steps; owner = x .owner; number = x .number; there = ahead-add 𝓜 s n (x .steps) p ∙ ap (ahead 𝓜 s (x .steps)) h ∙ x .there; value = x .value }
 
 -- a mark that goes with its message
 mark-off : (t : Bool) → 0 + cond t 1 0 ≡ bit t + cond t 0 0
 mark-off true = refl
 mark-off false = refl
 
-module _ (𝓜 : Machine) (L : Laws 𝓜) (s : Tables) (I : Invariant 𝓜 s) (ρ : ℕ → ℕ → ℕ) (R : Ranked 𝓜 s ρ) where
+module _ (𝓜 : Machine) (L : Laws 𝓜) (s : Tables) (F : Facts 𝓜 s) (reads : Reads 𝓜 s) where
   -- a slot that is not empty is one of the machine's
   message-inside : (k : ℕ) → isEmpty (message s k) ≡ false → k < 𝓜 .slots
   message-inside k h = go (ltb k (length (s .slots))) refl
     where
       go : (b : Bool) → ltb k (length (s .slots)) ≡ b → k < 𝓜 .slots
-      go true e = omega (arith, ltb-true k (length (s .slots)) e, I .facts .sized .slots-long)
+      go true e = omega (arith, ltb-true k (length (s .slots)) e, F .sized .slots-long)
       go false e =
           absurd-bool (ap (λ (x : Slot). isEmpty (x .message)) (List·getD-eq-default (s .slots) (record { message = Empty }) {n = k} (ltb-false k (length (s .slots)) e))) h
 
@@ -77,7 +69,7 @@ module _ (𝓜 : Machine) (L : Laws 𝓜) (s : Tables) (I : Invariant 𝓜 s) (�
     pub some : 1 ≤ w
     pub no-read : (v d : ℕ) → readsFor v d m₀ ≡ false
     pub no-ask : (v d : ℕ) → asksFor v d m₀ ≡ false
-    pub cost : (t : Tables) → 1 ≤ spends 𝓜 t ρ m₀
+    pub cost : (t : Tables) (ρ : ℕ → ℕ → ℕ) → 1 ≤ spends 𝓜 t ρ m₀
 
   -- what it brings is held there
   brought-held : (k o e w : ℕ) (m₀ : Message) → Brings k o e w m₀ → w ≤ held 𝓜 s o e
@@ -85,16 +77,16 @@ module _ (𝓜 : Machine) (L : Laws 𝓜) (s : Tables) (I : Invariant 𝓜 s) (�
       let here : cond (eqb o o && eqb e e) w 0 ≡ w = ap (λ (t : Bool). cond t w 0) (eq-both o e) in
       omega (arith, message-held 𝓜 s k o e, ap (messageHolds 𝓜 s o e) (B .slot), B .holds o e)
 
-  taken-arrives : (k o e w : ℕ) (m₀ : Message) → Brings k o e w m₀ → Arrived 𝓜 s ρ (putMessage (putEntry 𝓜 s o e (takenOff w (entry 𝓜 s o e))) k Empty)
+  taken-arrives : (k o e w : ℕ) (m₀ : Message) → Brings k o e w m₀ → Delivers 𝓜 s (putMessage (putEntry 𝓜 s o e (takenOff w (entry 𝓜 s o e))) k Empty)
   taken-arrives k o e w m₀ B =
       let bring = brought-held k o e w m₀ B in
-      let live = held-live 𝓜 s (I .facts .weighed) o e (omega (arith, B .some)) in
+      let live = held-live 𝓜 s (F .weighed) o e (omega (arith, B .some)) in
       let l = the-live (entry 𝓜 s o e) live in
-      let f = live-fact 𝓜 s (I .facts) o e l in
+      let f = live-fact 𝓜 s F o e l in
       let inside = entry-inside 𝓜 s o e live in
       let within = message-inside k (ap isEmpty (B .slot) ∙ B .full) in
-      let enough : w ≤ l .weight = omega (arith, I .facts .weighed o e, ap entryWeight (l .is)) in
-      subst (λ (x : Holding). Arrived 𝓜 s ρ (putMessage (putEntry 𝓜 s o e (takenOff w x)) k Empty)) (sym (l .is))
+      let enough : w ≤ l .weight = omega (arith, F .weighed o e, ap entryWeight (l .is)) in
+      subst (λ (x : Holding). Delivers 𝓜 s (putMessage (putEntry 𝓜 s o e (takenOff w x)) k Empty)) (sym (l .is))
       (go (l .cell) (l .weight) (l .tainted) (l .is) f (inside .0) (inside .1) within enough (leb (l .weight) w) refl)
     where
       -- the entry, which held x₀, then holds x
@@ -102,9 +94,9 @@ module _ (𝓜 : Machine) (L : Laws 𝓜) (s : Tables) (I : Invariant 𝓜 s) (�
           → EntryFact 𝓜 (next 𝓜 s (entryMove 𝓜 s o e x₀ x k m₀ Empty)) o x
           → (isLive x₀ ≡ true → isLive x ≡ true → (cellOf x ≡ cellOf x₀) × (isTainted x ≡ isTainted x₀))
           → ((f d : ℕ) → entryNames d x ≡ true → entryNames d (entry 𝓜 s o f) ≡ true → f ≡ e) → (isLive x ≡ true → isLive x₀ ≡ true)
-          → entryWeight x + w ≡ entryWeight x₀ → Arrived 𝓜 s ρ (putMessage (putEntry 𝓜 s o e x) k Empty)
+          → entryWeight x + w ≡ entryWeight x₀ → Delivers 𝓜 s (putMessage (putEntry 𝓜 s o e x) k Empty)
       taken x₀ x q oi ei ki fact kept new live less =
-          arrived-entry 𝓜 L s I ρ R o e x₀ x k m₀ Empty
+          delivers-entry 𝓜 L s F o e x₀ x k m₀ Empty
           (record {
             o-in = oi;
             e-in = ei;
@@ -119,23 +111,23 @@ module _ (𝓜 : Machine) (L : Laws 𝓜) (s : Tables) (I : Invariant 𝓜 s) (�
             asks = λ v d. sym (ap bit (B .no-ask v d));
             weights = λ a b. omega (arith, B .holds a b, cond-add (eqb o a && eqb e b) (entryWeight x) w (entryWeight x₀) less);
             holds-ok = λ a b. refl;
-            room = λ v. omega (arith, I .facts .room v);
+            room = λ v. omega (arith, F .room v);
           })
-          (record { read-ok = inr (0, tt); answer-ok = inr tt; known-ok = inl (λ y. y) })
+          (inr (0, tt)) (λ t. record { answer-ok = inr tt; known-ok = inl (λ y. y) })
           live
-          (B .cost (next 𝓜 s (entryMove 𝓜 s o e x₀ x k m₀ Empty)))
+          (λ ρ R. B .cost (next 𝓜 s (entryMove 𝓜 s o e x₀ x k m₀ Empty)) ρ)
 
       go : (c n : ℕ) (t : Bool) → entry 𝓜 s o e ≡ Live c n t → EntryFact 𝓜 s o (Live c n t) → o < 𝓜 .workers → e < 𝓜 .entries → k < 𝓜 .slots → w ≤ n
-          → (b : Bool) → leb n w ≡ b → Arrived 𝓜 s ρ (putMessage (putEntry 𝓜 s o e (cond b Unused (Live c (n - w) t))) k Empty)
+          → (b : Bool) → leb n w ≡ b → Delivers 𝓜 s (putMessage (putEntry 𝓜 s o e (cond b Unused (Live c (n - w) t))) k Empty)
       go c n t q f oi ei ki enough true all =
           taken (Live c n t) Unused q oi ei ki tt (λ a b. absurd-bool b refl) (λ f d a b. absurd-bool a refl) (λ y. refl)
           (omega (arith, leb-true n w all))
       go c n t q f oi ei ki enough false some =
           let more = leb-false n w some in
           taken (Live c n t) (Live c (n - w) t) q oi ei ki
-          (entry-next 𝓜 L s (I .facts) o e (Live c n t) (Live c (n - w) t) k m₀ Empty oi ei ki q (B .slot) c (n - w) t (omega (arith, f .0)) (omega arith) (f .2) (f .3))
+          (entry-next 𝓜 L s F o e (Live c n t) (Live c (n - w) t) k m₀ Empty oi ei ki q (B .slot) c (n - w) t (omega (arith, f .0)) (omega arith) (f .2) (f .3))
           (λ a b. (refl, refl))
-          (λ y d a b. I .facts .entry-once o y e d b (ap (entryNames d) q ∙ a))
+          (λ y d a b. F .entry-once o y e d b (ap (entryNames d) q ∙ a))
           (λ y. refl)
           (omega arith)
 
@@ -145,24 +137,24 @@ module _ (𝓜 : Machine) (L : Laws 𝓜) (s : Tables) (I : Invariant 𝓜 s) (�
   arrives-booked k to o e w q =
       omega (arith, message-total 𝓜 s (λ m. bit (goesTo to m)) refl k, ap (λ (m : Message). bit (goesTo to m)) q, ap bit (eq-eqb to to refl))
 
-  away-arrives : (k to o e w : ℕ) → message s k ≡ Reference to o e w → eqb to o ≡ false → Arrived 𝓜 s ρ (deliverAway 𝓜 s k to o e w .after)
+  away-arrives : (k to o e w : ℕ) → message s k ≡ Reference to o e w → eqb to o ≡ false → Delivers 𝓜 s (deliverAway 𝓜 s k to o e w .after)
   unfolding deliverAway arrivalCell exNaming
   away-arrives k to o e w q other = go (ltb (exNaming 𝓜 s to o e) (𝓜 .cells)) refl
     where
       f : MessageFact 𝓜 s (Reference to o e w)
-      f = subst (MessageFact 𝓜 s) q (I .facts .messages k)
+      f = subst (MessageFact 𝓜 s) q (F .messages k)
 
       within : k < 𝓜 .slots
       within = message-inside k (ap isEmpty q)
 
       go : (b : Bool) → ltb (exNaming 𝓜 s to o e) (𝓜 .cells) ≡ b
-          → Arrived 𝓜 s ρ (putMessage (putCell 𝓜 s to (cond b (exNaming 𝓜 s to o e) (lowestFreeCell 𝓜 s to)) (joined o e w (cell 𝓜 s to (cond b (exNaming 𝓜 s to o e) (lowestFreeCell 𝓜 s to))))) k Empty)
+          → Delivers 𝓜 s (putMessage (putCell 𝓜 s to (cond b (exNaming 𝓜 s to o e) (lowestFreeCell 𝓜 s to)) (joined o e w (cell 𝓜 s to (cond b (exNaming 𝓜 s to o e) (lowestFreeCell 𝓜 s to))))) k Empty)
       go true found =
           let c = exNaming 𝓜 s to o e in
           let x = the-ex-of o e (cell 𝓜 s to c) (lowest-at (𝓜 .cells) (λ d. exNames o e (cell 𝓜 s to d)) (ltb-true c (𝓜 .cells) found)) in
           let n = x .weight in
-          subst (λ (y : Kind). Arrived 𝓜 s ρ (putMessage (putCell 𝓜 s to c (joined o e w y)) k Empty)) (sym (x .is))
-          (arrived-ex 𝓜 L s I ρ R to c o e n (n + w) (x .status) (x .status) (x .asking) (x .asking) k (Reference to o e w) Empty
+          subst (λ (y : Kind). Delivers 𝓜 s (putMessage (putCell 𝓜 s to c (joined o e w y)) k Empty)) (sym (x .is))
+          (delivers-ex 𝓜 L s F to c o e n (n + w) (x .status) (x .status) (x .asking) (x .asking) k (Reference to o e w) Empty
           (record {
             i-in = within;
             old-cell = x .is;
@@ -173,36 +165,36 @@ module _ (𝓜 : Machine) (L : Laws 𝓜) (s : Tables) (I : Invariant 𝓜 s) (�
             asks = λ v d. refl;
             weights = λ a b. omega (arith, cond-add (eqb o a && eqb e b) n w (n + w) refl);
             holds-ok = λ a b. refl;
-            room = λ v. omega (arith, I .facts .room v);
+            room = λ v. omega (arith, F .room v);
           })
-          (record { read-ok = inr (0, tt); answer-ok = inr tt; known-ok = inl (λ y. y) })
-          (omega arith)
+          (inr (0, tt)) (λ t. record { answer-ok = inr tt; known-ok = inl (λ y. y) })
+          (λ ρ R. omega arith)
           (status-same (x .status)))
       go false none =
           let c = lowestFreeCell 𝓜 s to in
           let one = arrives-booked k to o e w q in
-          let free = free-cell 𝓜 L s (I .facts) to (omega (arith, I .facts .room to)) in
-          subst (λ (y : Kind). Arrived 𝓜 s ρ (putMessage (putCell 𝓜 s to c (joined o e w y)) k Empty)) (sym (free .1))
-          (arrived-cell 𝓜 L s I ρ R to c Free (Ex o e w Idle false) k (Reference to o e w) Empty
+          let free = free-cell 𝓜 L s F to (omega (arith, F .room to)) in
+          subst (λ (y : Kind). Delivers 𝓜 s (putMessage (putCell 𝓜 s to c (joined o e w y)) k Empty)) (sym (free .1))
+          (delivers-cell 𝓜 L s F to c Free (Ex o e w Idle false) k (Reference to o e w) Empty
           (record {
-            w-in = omega (arith, f .0, I .facts .p-le);
+            w-in = omega (arith, f .0, F .p-le);
             c-in = free .0;
             i-in = within;
             old-cell = free .1;
             old-message = q;
             cell-ok = (f .0, (λ (y : o ≡ to). eqb-false to o other (sym y)), f .1);
             message-ok = inr tt;
-            busy-kept = λ b v. absurd (free-not-busy 𝓜 L s (I .facts) to c (free .1) b);
+            busy-kept = λ b v. absurd (free-not-busy 𝓜 L s F to c (free .1) b);
             var-kept = λ y v. absurd-bool v refl;
             ex-new = λ d a b t u. absurd-bool (named d a b t u) (unnamed d a b t u);
             reads = λ v d. refl;
             asks = λ v d. refl;
             weights = λ a b. omega arith;
             holds-ok = inr (λ a b. refl);
-            room = λ v. fits v (eqb to v) (I .facts .room v);
+            room = λ v. fits v (eqb to v) (F .room v);
           })
-          (record { read-ok = inr (0, tt); answer-ok = inr tt; known-ok = inr tt })
-          (omega arith)
+          (inr (0, tt)) (λ t. record { answer-ok = inr tt; known-ok = inr tt })
+          (λ ρ R. omega arith)
           tt)
         where
           -- no EX of the worker names the entry
@@ -232,7 +224,7 @@ module _ (𝓜 : Machine) (L : Laws 𝓜) (s : Tables) (I : Invariant 𝓜 s) (�
       → ((t : Tables) (a b : ℕ) → messageHolds 𝓜 t a b m ≡ 0) → ((v : ℕ) → goesTo v m ≡ false)
       → Keeps 𝓜 s (slotMove 𝓜 s k (Read r c o e) m)
   passes k r c o e m q ok reads asks holds goes =
-      entry-keeps 𝓜 L s (I .facts) 0 0 (entry 𝓜 s 0 0) (entry 𝓜 s 0 0) k (Read r c o e) m
+      entry-keeps 𝓜 L s F 0 0 (entry 𝓜 s 0 0) (entry 𝓜 s 0 0) k (Read r c o e) m
       (record {
         o-in = L .workers-some;
         e-in = L .entries-some;
@@ -242,12 +234,12 @@ module _ (𝓜 : Machine) (L : Laws 𝓜) (s : Tables) (I : Invariant 𝓜 s) (�
         entry-ok = inl refl;
         message-ok = ok (next 𝓜 s (slotMove 𝓜 s k (Read r c o e) m));
         entry-kept = λ a b. (refl, refl);
-        entry-new = λ f d a b. I .facts .entry-once 0 f 0 d b a;
+        entry-new = λ f d a b. F .entry-once 0 f 0 d b a;
         reads = λ v d. ap bit (reads v d);
         asks = λ v d. ap bit (asks v d);
         weights = λ a b. omega (arith, holds s a b);
         holds-ok = λ a b. holds (next 𝓜 s (slotMove 𝓜 s k (Read r c o e) m)) a b ∙ sym (holds s a b);
-        room = λ v. omega (arith, I .facts .room v, ap bit (goes v));
+        room = λ v. omega (arith, F .room v, ap bit (goes v));
       })
 
   -- where the EX of the Read names what it named
@@ -255,21 +247,21 @@ module _ (𝓜 : Machine) (L : Laws 𝓜) (s : Tables) (I : Invariant 𝓜 s) (�
       → message s k ≡ Read r c o e
       → (namedBy (cell 𝓜 (next 𝓜 s (slotMove 𝓜 s k (Read r c o e) m)) r c) ≡ namedBy (cell 𝓜 s r c)) × LivePlace 𝓜 (next 𝓜 s (slotMove 𝓜 s k (Read r c o e) m)) (namedBy (cell 𝓜 s r c))
   reader-place k r c o e m K q =
-      let same = ap namedBy (cells-same 𝓜 L s (I .facts) 0 0 (entry 𝓜 s 0 0) (entry 𝓜 s 0 0) k (Read r c o e) m (L .workers-some) (L .entries-some) (message-inside k (ap isEmpty q)) refl q r c) in
+      let same = ap namedBy (cells-same 𝓜 L s F 0 0 (entry 𝓜 s 0 0) (entry 𝓜 s 0 0) k (Read r c o e) m (L .workers-some) (L .entries-some) (message-inside k (ap isEmpty q)) refl q r c) in
       let h = slotMove 𝓜 s k (Read r c o e) m in
-      (same, subst (LivePlace 𝓜 (next 𝓜 s h)) same (named-place 𝓜 (next 𝓜 s h) (facts-kept 𝓜 s h (I .facts) K) r c))
+      (same, subst (LivePlace 𝓜 (next 𝓜 s h)) same (named-place 𝓜 (next 𝓜 s h) (facts-kept 𝓜 s h F K) r c))
 
   read-of : (k r c o e : ℕ) → message s k ≡ Read r c o e → (n : ℕ) × (ahead 𝓜 s n (namedBy (cell 𝓜 s r c)) ≡ At o e)
-  read-of k r c o e q = subst (λ (m : Message). (n : ℕ) × ReadAhead 𝓜 s n m) q (I .reads k)
+  read-of k r c o e q = subst (λ (m : Message). (n : ℕ) × ReadAhead 𝓜 s n m) q (reads k)
 
   -- its entry is live after it goes on
   live-read : (k r c o e : ℕ) (m : Message) (K : Keeps 𝓜 s (slotMove 𝓜 s k (Read r c o e) m))
       → message s k ≡ Read r c o e → isLive (entry 𝓜 (next 𝓜 s (slotMove 𝓜 s k (Read r c o e) m)) o e) ≡ true
   live-read k r c o e m K q =
-      ap isLive (entries-same 𝓜 L s (I .facts) 0 0 (entry 𝓜 s 0 0) (entry 𝓜 s 0 0) k (Read r c o e) m (L .workers-some) (L .entries-some) (message-inside k (ap isEmpty q)) refl q refl o e)
-      ∙ read-live 𝓜 s (I .facts) (I .reads) k r c o e q
+      ap isLive (entries-same 𝓜 L s F 0 0 (entry 𝓜 s 0 0) (entry 𝓜 s 0 0) k (Read r c o e) m (L .workers-some) (L .entries-some) (message-inside k (ap isEmpty q)) refl q refl o e)
+      ∙ read-live 𝓜 s F reads k r c o e q
 
-  goes-on : (k r c o e o′ e′ : ℕ) → message s k ≡ Read r c o e → follow 𝓜 s (At o e) ≡ At o′ e′ → Arrived 𝓜 s ρ (putMessage s k (Read r c o′ e′))
+  goes-on : (k r c o e o′ e′ : ℕ) → message s k ≡ Read r c o e → follow 𝓜 s (At o e) ≡ At o′ e′ → Delivers 𝓜 s (putMessage s k (Read r c o′ e′))
   unfolding ahead
   goes-on k r c o e o′ e′ q step =
       let m = Read r c o′ e′ in
@@ -279,76 +271,64 @@ module _ (𝓜 : Machine) (L : Laws 𝓜) (s : Tables) (I : Invariant 𝓜 s) (�
       let place = reader-place k r c o e m K q in
       let further : ahead 𝓜 s (at .0 + 1) (namedBy (cell 𝓜 s r c)) ≡ At o′ e′ = ahead-add 𝓜 s (at .0) 1 (namedBy (cell 𝓜 s r c)) ∙ ap (follow 𝓜 s) (at .1) ∙ step in
       let live = live-read k r c o e m K q in
-      subst (Arrived 𝓜 s ρ) (put-message 𝓜 L s k (Read r c o e) m)
-      (arrived 𝓜 L s I ρ R h K
-      (record {
-        read-ok = inr (at .0 + 1, ap (ahead 𝓜 (next 𝓜 s h) (at .0 + 1)) (place .0) ∙ ahead-kept 𝓜 s h (I .facts) K (at .0 + 1) (namedBy (cell 𝓜 s r c)) o′ e′ (place .1) further);
-        answer-ok = inr tt;
-        known-ok = inl (λ y. y);
-      })
-      (λ y. y)
-      (omega (arith, standing-falls 𝓜 L (next 𝓜 s h) (facts-kept 𝓜 s h (I .facts) K .sized) ρ o e (ρ o′ e′) live (R .falls o e o′ e′ step)))
-      (kind-same (cell 𝓜 s 0 0)))
+      let now = ap (ahead 𝓜 (next 𝓜 s h) (at .0 + 1)) (place .0) ∙ ahead-kept 𝓜 s h F K (at .0 + 1) (namedBy (cell 𝓜 s r c)) o′ e′ (place .1) further in
+      delivers-slot 𝓜 L s F k (Read r c o e) m K
+      (inr (at .0 + 1, now)) (λ t. record { answer-ok = inr tt; known-ok = inl (λ y. y) })
+      (λ ρ R. omega (arith, standing-falls 𝓜 L (next 𝓜 s h) (facts-kept 𝓜 s h F K .sized) ρ o e (ρ o′ e′) live (R .falls o e o′ e′ step)))
 
-  is-answered : (k r c o e v : ℕ) → message s k ≡ Read r c o e → EndsIn 𝓜 s (At o e) v → Arrived 𝓜 s ρ (putMessage s k (Answer r c v))
+  is-answered : (k r c o e v : ℕ) → message s k ≡ Read r c o e → (TrueValues 𝓜 s → EndsIn 𝓜 s (At o e) v) → Delivers 𝓜 s (putMessage s k (Answer r c v))
   is-answered k r c o e v q ends =
       let m = Answer r c v in
       let h = slotMove 𝓜 s k (Read r c o e) m in
       let K = passes k r c o e m q (λ t. tt) (λ v d. refl) (λ v d. refl) (λ t a b. refl) (λ v. refl) in
       let at = read-of k r c o e q in
       let place = reader-place k r c o e m K q in
-      let now = ends-kept 𝓜 s h (I .facts) K (namedBy (cell 𝓜 s r c)) v (place .1) (ends-before 𝓜 s (at .0) (namedBy (cell 𝓜 s r c)) (At o e) v (at .1) ends) in
+      let from-reader : TrueValues 𝓜 s → EndsIn 𝓜 s (namedBy (cell 𝓜 s r c)) v = λ t. ends-before 𝓜 s (at .0) (namedBy (cell 𝓜 s r c)) (At o e) v (at .1) (ends t) in
+      let now : TrueValues 𝓜 s → EndsIn 𝓜 (next 𝓜 s h) (namedBy (cell 𝓜 s r c)) v = λ t. ends-kept 𝓜 s h F K (namedBy (cell 𝓜 s r c)) v (place .1) (from-reader t) in
       let live = live-read k r c o e m K q in
-      subst (Arrived 𝓜 s ρ) (put-message 𝓜 L s k (Read r c o e) m)
-      (arrived 𝓜 L s I ρ R h K
-      (record {
-        read-ok = inr (0, tt);
-        answer-ok = inr (subst (λ (p : Place). EndsIn 𝓜 (next 𝓜 s h) p v) (sym (place .0)) now);
-        known-ok = inl (λ y. y);
-      })
-      (λ y. y)
-      (omega (arith, standing-some 𝓜 L (next 𝓜 s h) (facts-kept 𝓜 s h (I .facts) K .sized) ρ o e live))
-      (kind-same (cell 𝓜 s 0 0)))
+      delivers-slot 𝓜 L s F k (Read r c o e) m K
+      (inr (0, tt)) (λ t. record { answer-ok = inr (subst (λ (p : Place). EndsIn 𝓜 (next 𝓜 s h) p v) (sym (place .0)) (now t)); known-ok = inl (λ y. y) })
+      (λ ρ R. omega (arith, standing-some 𝓜 L (next 𝓜 s h) (facts-kept 𝓜 s h F K .sized) ρ o e live))
 
   -- "Read"
-  read-arrives : (k r c o e : ℕ) → message s k ≡ Read r c o e → ready 𝓜 s (Read r c o e) ≡ true → Arrived 𝓜 s ρ (deliverRead 𝓜 s k r c o e .after)
+  read-arrives : (k r c o e : ℕ) → message s k ≡ Read r c o e → ready 𝓜 s (Read r c o e) ≡ true → Delivers 𝓜 s (deliverRead 𝓜 s k r c o e .after)
   unfolding deliverRead endKind ahead ready
   read-arrives k r c o e q is-ready =
-      let l = the-live (entry 𝓜 s o e) (read-live 𝓜 s (I .facts) (I .reads) k r c o e q) in
-      subst (λ (x : Holding). Arrived 𝓜 s ρ (putMessage s k (readOn r c (Read r c o e) (entryEnd 𝓜 s o x)))) (sym (l .is))
-      (at-end (l .cell) (l .weight) (l .tainted) (l .is) (cell 𝓜 s o (end 𝓜 s o (l .cell))) refl (end-is 𝓜 L s (I .facts) ρ R o (l .cell) (live-fact 𝓜 s (I .facts) o e l .2)) (sym (ap (λ (x : Holding). not (isVar (entryEnd 𝓜 s o x))) (l .is)) ∙ is-ready))
+      let l = the-live (entry 𝓜 s o e) (read-live 𝓜 s F reads k r c o e q) in
+      subst (λ (x : Holding). Delivers 𝓜 s (putMessage s k (readOn r c (Read r c o e) (entryEnd 𝓜 s o x)))) (sym (l .is))
+      (at-end (l .cell) (l .weight) (l .tainted) (l .is) (cell 𝓜 s o (end 𝓜 s o (l .cell))) refl (end-is 𝓜 s F o (l .cell) (live-fact 𝓜 s F o e l .2)) (sym (ap (λ (x : Holding). not (isVar (entryEnd 𝓜 s o x))) (l .is)) ∙ is-ready))
     where
-      no-end : {X : Type 0} (y : Kind) → (isVar y || isVal y) ≡ false → namedBy y ≡ Nowhere → EndIs 𝓜 L s (I .facts) ρ R o y → X
+      no-end : {X : Type 0} (y : Kind) → (isVar y || isVal y) ≡ false → namedBy y ≡ Nowhere → EndIs y → X
       no-end y v n (plain t) = absurd-bool t v
       no-end y v n (leads a b t) = nowhere-at (sym n ∙ t)
 
       at-end : (d n : ℕ) (t : Bool) → entry 𝓜 s o e ≡ Live d n t → (y : Kind) → cell 𝓜 s o (end 𝓜 s o d) ≡ y
-          → EndIs 𝓜 L s (I .facts) ρ R o (cell 𝓜 s o (end 𝓜 s o d)) → not (isVar (cell 𝓜 s o (end 𝓜 s o d))) ≡ true
-          → Arrived 𝓜 s ρ (putMessage s k (readOn r c (Read r c o e) y))
-      at-end d n t i Free j is w = no-end Free refl refl (subst (EndIs 𝓜 L s (I .facts) ρ R o) j is)
+          → EndIs (cell 𝓜 s o (end 𝓜 s o d)) → not (isVar (cell 𝓜 s o (end 𝓜 s o d))) ≡ true
+          → Delivers 𝓜 s (putMessage s k (readOn r c (Read r c o e) y))
+      at-end d n t i Free j is w = no-end Free refl refl (subst EndIs j is)
       at-end d n t i Var j is w = absurd-bool w (ap (λ (y : Kind). not (isVar y)) j)
       at-end d n t i (Val v) j is w =
-          is-answered k r c o e v q (record { steps = 0; owner = o; number = e; there = refl; value = ap (entryEnd 𝓜 s o) i ∙ j })
-      at-end d n t i (Ref y) j is w = no-end (Ref y) refl refl (subst (EndIs 𝓜 L s (I .facts) ρ R o) j is)
+          is-answered k r c o e v q (λ t′. record { steps = 0; owner = o; number = e; there = refl; value = ap (entryEnd 𝓜 s o) i ∙ j })
+      at-end d n t i (Ref y) j is w = no-end (Ref y) refl refl (subst EndIs j is)
       at-end d n t i (Ex o′ e′ m Idle a) j is w = goes-on k r c o e o′ e′ q (follow-live 𝓜 s o e d n t i ∙ ap namedBy j)
       at-end d n t i (Ex o′ e′ m Reading a) j is w = goes-on k r c o e o′ e′ q (follow-live 𝓜 s o e d n t i ∙ ap namedBy j)
       at-end d n t i (Ex o′ e′ m (Known v) a) j is w =
           is-answered k r c o e v q
-          (ends-before 𝓜 s 1 (At o e) (At o′ e′) v (follow-live 𝓜 s o e d n t i ∙ ap namedBy j) (subst (KnownFact 𝓜 s) j (I .known o (end 𝓜 s o d))))
+          (λ t′. ends-before 𝓜 s 1 (At o e) (At o′ e′) v (follow-live 𝓜 s o e d n t i ∙ ap namedBy j) (subst (KnownFact 𝓜 s) j (t′ .exes o (end 𝓜 s o d))))
 
   -- "Answer"
-  answer-arrives : (k r c v : ℕ) → message s k ≡ Answer r c v → Arrived 𝓜 s ρ (deliverAnswer 𝓜 s k r c v .after)
+  answer-arrives : (k r c v : ℕ) → message s k ≡ Answer r c v → Delivers 𝓜 s (deliverAnswer 𝓜 s k r c v .after)
   unfolding deliverAnswer
   answer-arrives k r c v q =
-      go (cell 𝓜 s r c) refl (reading-cell 𝓜 s (I .facts) k r c (ap (readsFor r c) q ∙ eq-both r c))
+      go (cell 𝓜 s r c) refl (reading-cell 𝓜 s F k r c (ap (readsFor r c) q ∙ eq-both r c))
     where
       within : k < 𝓜 .slots
       within = message-inside k (ap isEmpty q)
 
-      ends : EndsIn 𝓜 s (namedBy (cell 𝓜 s r c)) v
-      ends = subst (AnswerFact 𝓜 s) q (I .answers k)
+      ends : TrueValues 𝓜 s → EndsIn 𝓜 s (namedBy (cell 𝓜 s r c)) v
+      ends t = subst (AnswerFact 𝓜 s) q (t .answers k)
 
-      go : (y : Kind) → cell 𝓜 s r c ≡ y → isReading y ≡ true → Arrived 𝓜 s ρ (putMessage (putCell 𝓜 s r c (known v y)) k Empty)
+      go : (y : Kind) → cell 𝓜 s r c ≡ y → isReading y ≡ true → Delivers 𝓜 s (putMessage (putCell 𝓜 s r c (known v y)) k Empty)
       go Free i t = absurd-bool t refl
       go Var i t = absurd-bool t refl
       go (Val n) i t = absurd-bool t refl
@@ -358,101 +338,101 @@ module _ (𝓜 : Machine) (L : Laws 𝓜) (s : Tables) (I : Invariant 𝓜 s) (�
       go (Ex o e n Reading a) i t =
           let h = cellMove 𝓜 s r c (Ex o e n Reading a) (Ex o e n (Known v) a) k (Answer r c v) Empty in
           let inside = cell-inside 𝓜 s r c (ap isFree i) in
-          let M : ExMoves 𝓜 L s (I .facts) r c o e n n Reading (Known v) a a k (Answer r c v) Empty = record { i-in = within; old-cell = i; old-message = q; some = weight-some 𝓜 L s (I .facts) r c o e n Reading a i; message-ok = tt; reads = λ x d. mark-off (eqb r x && eqb c d); asks = λ x d. refl; weights = λ x y. refl; holds-ok = λ x y. refl; room = λ x. omega (arith, I .facts .room x) } in
-          let K = ex-keeps 𝓜 L s (I .facts) r c o e n n Reading (Known v) a a k (Answer r c v) Empty M in
-          let here = cell-stored 𝓜 s h (I .facts .sized) (K .placed) .here in
-          let live = subst (LivePlace 𝓜 (next 𝓜 s h)) (ap namedBy here) (named-place 𝓜 (next 𝓜 s h) (facts-kept 𝓜 s h (I .facts) K) r c) in
-          let now = ends-kept 𝓜 s h (I .facts) K (At o e) v live (subst (λ (p : Place). EndsIn 𝓜 s p v) (ap namedBy i) ends) in
-          arrived-ex 𝓜 L s I ρ R r c o e n n Reading (Known v) a a k (Answer r c v) Empty M
-          (record { read-ok = inr (0, tt); answer-ok = inr tt; known-ok = inr now })
-          (omega arith)
+          let M : ExMoves 𝓜 L s F r c o e n n Reading (Known v) a a k (Answer r c v) Empty = record { i-in = within; old-cell = i; old-message = q; some = weight-some 𝓜 L s F r c o e n Reading a i; message-ok = tt; reads = λ x d. mark-off (eqb r x && eqb c d); asks = λ x d. refl; weights = λ x y. refl; holds-ok = λ x y. refl; room = λ x. omega (arith, F .room x) } in
+          let K = ex-keeps 𝓜 L s F r c o e n n Reading (Known v) a a k (Answer r c v) Empty M in
+          let here = cell-stored 𝓜 s h (F .sized) (K .placed) .here in
+          let live = subst (LivePlace 𝓜 (next 𝓜 s h)) (ap namedBy here) (named-place 𝓜 (next 𝓜 s h) (facts-kept 𝓜 s h F K) r c) in
+          let now : TrueValues 𝓜 s → EndsIn 𝓜 (next 𝓜 s h) (At o e) v = λ t. ends-kept 𝓜 s h F K (At o e) v live (subst (λ (p : Place). EndsIn 𝓜 s p v) (ap namedBy i) (ends t)) in
+          delivers-ex 𝓜 L s F r c o e n n Reading (Known v) a a k (Answer r c v) Empty M
+          (inr (0, tt)) (λ t. record { answer-ok = inr tt; known-ok = inr (now t) })
+          (λ ρ R. omega arith)
           tt
 
   -- "Supply"
-  supply-arrives : (k a c w : ℕ) → message s k ≡ Supply a c w → Arrived 𝓜 s ρ (deliverSupply 𝓜 s k a c w .after)
+  supply-arrives : (k a c w : ℕ) → message s k ≡ Supply a c w → Delivers 𝓜 s (deliverSupply 𝓜 s k a c w .after)
   unfolding deliverSupply
   supply-arrives k a c w q =
-      go (cell 𝓜 s a c) refl (asking-cell 𝓜 s (I .facts) k a c (ap (asksFor a c) q ∙ eq-both a c))
+      go (cell 𝓜 s a c) refl (asking-cell 𝓜 s F k a c (ap (asksFor a c) q ∙ eq-both a c))
     where
-      go : (y : Kind) → cell 𝓜 s a c ≡ y → isAsking y ≡ true → Arrived 𝓜 s ρ (putMessage (putCell 𝓜 s a c (supplied w y)) k Empty)
+      go : (y : Kind) → cell 𝓜 s a c ≡ y → isAsking y ≡ true → Delivers 𝓜 s (putMessage (putCell 𝓜 s a c (supplied w y)) k Empty)
       go Free i t = absurd-bool t refl
       go Var i t = absurd-bool t refl
       go (Val n) i t = absurd-bool t refl
       go (Ref d) i t = absurd-bool t refl
       go (Ex o e n st false) i t = absurd-bool t refl
       go (Ex o e n st true) i t =
-          arrived-ex 𝓜 L s I ρ R a c o e n (n + w) st st true false k (Supply a c w) Empty
+          delivers-ex 𝓜 L s F a c o e n (n + w) st st true false k (Supply a c w) Empty
           (record {
             i-in = message-inside k (ap isEmpty q);
             old-cell = i;
             old-message = q;
-            some = omega (arith, weight-some 𝓜 L s (I .facts) a c o e n st true i);
+            some = omega (arith, weight-some 𝓜 L s F a c o e n st true i);
             message-ok = tt;
             reads = λ v d. refl;
             asks = λ v d. mark-off (eqb a v && eqb c d);
             weights = λ x y. omega (arith, cond-add (eqb o x && eqb e y) n w (n + w) refl, ap (λ (j : Kind). cond (exNames x y j) w 0) i);
             holds-ok = λ x y. refl;
-            room = λ v. omega (arith, I .facts .room v);
+            room = λ v. omega (arith, F .room v);
           })
-          (record { read-ok = inr (0, tt); answer-ok = inr tt; known-ok = inl (λ y. y) })
-          (omega arith)
+          (inr (0, tt)) (λ t. record { answer-ok = inr tt; known-ok = inl (λ y. y) })
+          (λ ρ R. omega arith)
           (status-same st)
 
   -- "Ask"
-  ask-arrives : (k a c o e : ℕ) → message s k ≡ Ask a c o e → Arrived 𝓜 s ρ (deliverAsk 𝓜 s k a c o e .after)
+  ask-arrives : (k a c o e : ℕ) → message s k ≡ Ask a c o e → Delivers 𝓜 s (deliverAsk 𝓜 s k a c o e .after)
   unfolding deliverAsk
   ask-arrives k a c o e q =
-      let names : exNames o e (cell 𝓜 s a c) ≡ true = subst (MessageFact 𝓜 s) q (I .facts .messages k) in
-      let live = names-live 𝓜 s (I .facts) a c o e names in
+      let names : exNames o e (cell 𝓜 s a c) ≡ true = subst (MessageFact 𝓜 s) q (F .messages k) in
+      let live = names-live 𝓜 s F a c o e names in
       let l = the-live (entry 𝓜 s o e) live in
       let inside = entry-inside 𝓜 s o e live in
-      subst (λ (x : Holding). Arrived 𝓜 s ρ (putMessage (putEntry 𝓜 s o e (grown (min (𝓜 .firstWeight) (𝓜 .ceiling - entryWeight x)) x)) k (Supply a c (min (𝓜 .firstWeight) (𝓜 .ceiling - entryWeight x))))) (sym (l .is))
-      (go (l .cell) (l .weight) (l .tainted) (min (𝓜 .firstWeight) (𝓜 .ceiling - l .weight)) (l .is) (live-fact 𝓜 s (I .facts) o e l) (inside .0) (inside .1) (min-le-right (𝓜 .firstWeight) (𝓜 .ceiling - l .weight)) (the-ex-of o e (cell 𝓜 s a c) names))
+      subst (λ (x : Holding). Delivers 𝓜 s (putMessage (putEntry 𝓜 s o e (grown (min (𝓜 .firstWeight) (𝓜 .ceiling - entryWeight x)) x)) k (Supply a c (min (𝓜 .firstWeight) (𝓜 .ceiling - entryWeight x))))) (sym (l .is))
+      (go (l .cell) (l .weight) (l .tainted) (min (𝓜 .firstWeight) (𝓜 .ceiling - l .weight)) (l .is) (live-fact 𝓜 s F o e l) (inside .0) (inside .1) (min-le-right (𝓜 .firstWeight) (𝓜 .ceiling - l .weight)) (the-ex-of o e (cell 𝓜 s a c) names))
     where
       go : (d n : ℕ) (t : Bool) (w : ℕ) → entry 𝓜 s o e ≡ Live d n t → EntryFact 𝓜 s o (Live d n t) → o < 𝓜 .workers → e < 𝓜 .entries
-          → w ≤ 𝓜 .ceiling - n → ExOf o e (cell 𝓜 s a c) → Arrived 𝓜 s ρ (putMessage (putEntry 𝓜 s o e (Live d (n + w) t)) k (Supply a c w))
+          → w ≤ 𝓜 .ceiling - n → ExOf o e (cell 𝓜 s a c) → Delivers 𝓜 s (putMessage (putEntry 𝓜 s o e (Live d (n + w) t)) k (Supply a c w))
       go d n t w i f oi ei small x =
           let within = message-inside k (ap isEmpty q) in
           let at-place : (y z : ℕ) → exNames y z (cell 𝓜 s a c) ≡ (eqb o y && eqb e z) = λ y z. ap (exNames y z) (x .is) in
-          arrived-entry 𝓜 L s I ρ R o e (Live d n t) (Live d (n + w) t) k (Ask a c o e) (Supply a c w)
+          delivers-entry 𝓜 L s F o e (Live d n t) (Live d (n + w) t) k (Ask a c o e) (Supply a c w)
           (record {
             o-in = oi;
             e-in = ei;
             i-in = within;
             old-entry = i;
             old-message = q;
-            entry-ok = inr (entry-next 𝓜 L s (I .facts) o e (Live d n t) (Live d (n + w) t) k (Ask a c o e) (Supply a c w) oi ei within i q d (n + w) t (omega (arith, f .0)) (omega (arith, f .1)) (f .2) (f .3));
+            entry-ok = inr (entry-next 𝓜 L s F o e (Live d n t) (Live d (n + w) t) k (Ask a c o e) (Supply a c w) oi ei within i q d (n + w) t (omega (arith, f .0)) (omega (arith, f .1)) (f .2) (f .3));
             message-ok = tt;
             entry-kept = λ y z. (refl, refl);
-            entry-new = λ y z u v. I .facts .entry-once o y e z v (ap (entryNames z) i ∙ u);
+            entry-new = λ y z u v. F .entry-once o y e z v (ap (entryNames z) i ∙ u);
             reads = λ v y. refl;
             asks = λ v y. refl;
             weights = λ y z. omega (arith, cond-add (eqb o y && eqb e z) n w (n + w) refl, ap (λ (b : Bool). cond b w 0) (at-place y z));
-            holds-ok = λ y z. ap (λ (j : Kind). cond (exNames y z j) w 0) (cells-same 𝓜 L s (I .facts) o e (Live d n t) (Live d (n + w) t) k (Ask a c o e) (Supply a c w) oi ei within i q a c);
-            room = λ v. omega (arith, I .facts .room v);
+            holds-ok = λ y z. ap (λ (j : Kind). cond (exNames y z j) w 0) (cells-same 𝓜 L s F o e (Live d n t) (Live d (n + w) t) k (Ask a c o e) (Supply a c w) oi ei within i q a c);
+            room = λ v. omega (arith, F .room v);
           })
-          (record { read-ok = inr (0, tt); answer-ok = inr tt; known-ok = inl (λ y. y) })
+          (inr (0, tt)) (λ t. record { answer-ok = inr tt; known-ok = inl (λ y. y) })
           (λ y. refl)
-          (omega arith)
+          (λ ρ R. omega arith)
 
   -- ---- every message
   reference-brings : (k to o e w : ℕ) → message s k ≡ Reference to o e w → Brings k o e w (Reference to o e w)
   reference-brings k to o e w q =
-      let f : MessageFact 𝓜 s (Reference to o e w) = subst (MessageFact 𝓜 s) q (I .facts .messages k) in
-      record { slot = q; full = refl; holds = λ a b. refl; some = f .1; no-read = λ v d. refl; no-ask = λ v d. refl; cost = λ t. omega arith }
+      let f : MessageFact 𝓜 s (Reference to o e w) = subst (MessageFact 𝓜 s) q (F .messages k) in
+      record { slot = q; full = refl; holds = λ a b. refl; some = f .1; no-read = λ v d. refl; no-ask = λ v d. refl; cost = λ t ρ. omega arith }
 
   release-brings : (k o e w : ℕ) → message s k ≡ Release o e w → Brings k o e w (Release o e w)
   release-brings k o e w q =
-      let f : MessageFact 𝓜 s (Release o e w) = subst (MessageFact 𝓜 s) q (I .facts .messages k) in
-      record { slot = q; full = refl; holds = λ a b. refl; some = f; no-read = λ v d. refl; no-ask = λ v d. refl; cost = λ t. omega arith }
+      let f : MessageFact 𝓜 s (Release o e w) = subst (MessageFact 𝓜 s) q (F .messages k) in
+      record { slot = q; full = refl; holds = λ a b. refl; some = f; no-read = λ v d. refl; no-ask = λ v d. refl; cost = λ t ρ. omega arith }
 
   -- a message that is there, and ready, arrives
-  pub message-arrives : (k : ℕ) (m : Message) → message s k ≡ m → isEmpty m ≡ false → ready 𝓜 s m ≡ true → Arrived 𝓜 s ρ (deliverMessage 𝓜 s k m .after)
+  pub message-arrives : (k : ℕ) (m : Message) → message s k ≡ m → isEmpty m ≡ false → ready 𝓜 s m ≡ true → Delivers 𝓜 s (deliverMessage 𝓜 s k m .after)
   unfolding deliverMessage deliverHome deliverRelease
   message-arrives k Empty q full is-ready = absurd-bool refl full
   message-arrives k (Reference to o e w) q full is-ready = go (eqb to o) refl
     where
-      go : (b : Bool) → eqb to o ≡ b → Arrived 𝓜 s ρ (cond b (deliverHome 𝓜 s k o e w) (deliverAway 𝓜 s k to o e w) .after)
+      go : (b : Bool) → eqb to o ≡ b → Delivers 𝓜 s (cond b (deliverHome 𝓜 s k o e w) (deliverAway 𝓜 s k to o e w) .after)
       go true t = taken-arrives k o e w (Reference to o e w) (reference-brings k to o e w q)
       go false t = away-arrives k to o e w q t
   message-arrives k (Release o e w) q full is-ready = taken-arrives k o e w (Release o e w) (release-brings k o e w q)
@@ -461,8 +441,10 @@ module _ (𝓜 : Machine) (L : Laws 𝓜) (s : Tables) (I : Invariant 𝓜 s) (�
   message-arrives k (Ask a c o e) q full is-ready = ask-arrives k a c o e q
   message-arrives k (Supply a c w) q full is-ready = supply-arrives k a c w q
 
-pub deliver-makes : (𝓜 : Machine) (L : Laws 𝓜) (s : Tables) (I : Invariant 𝓜 s) (k : ℕ) → Makes 𝓜 s (deliver 𝓜 s k .after)
+pub deliver-makes : (𝓜 : Machine) (L : Laws 𝓜) (s : Tables) (F : Facts 𝓜 s) (reads : Reads 𝓜 s) (k : ℕ) → Makes 𝓜 s (deliver 𝓜 s k .after)
 unfolding deliver
-deliver-makes 𝓜 L s I k =
+deliver-makes 𝓜 L s F reads k =
     after-checked (Makes 𝓜 s) s (deliverRefusals 𝓜 s k) (deliverMessage 𝓜 s k (message s k)) nothing
-    (λ p. message-arrives 𝓜 L s I (I .rank) (I .ranked) k (message s k) refl (search) (not-false (search)) .makes)
+    (λ p.
+    delivers-makes 𝓜 s (deliverMessage 𝓜 s k (message s k) .after)
+    (message-arrives 𝓜 L s F reads k (message s k) refl (search) (not-false (search))))

@@ -24,7 +24,7 @@ use Rattle.tables.specs.declared.Place.the-variants.{At}
 use Rattle.tables.specs.Machine.{Machine, Tables}
 use Rattle.tables.specs.Parts.{isReading, isAsking, exNames, isLive, entryNames, entryWeight, goesTo}
 use Rattle.tables.specs.Look.{cell, entry, booked, message}
-use Rattle.rules.specs.Answers.{succeeds, refuse, checked}
+use Rattle.rules.specs.Answers.{refuse, checked}
 use Rattle.rules.specs.Chains.{through, follow}
 use Rattle.rules.specs.Sound.{readsFor, asksFor, readsOf, asksOf, cellHolds, messageHolds, held}
 use Rattle.rules.specs.Calls.{allFree, closed, start}
@@ -97,8 +97,7 @@ module _ (𝓜 : Machine) (p : ℕ) where
               room = λ w. omega (arith, slots-nothing (λ m. bit (goesTo w m)) refl);
             };
         reads = λ k. (0, subst (ReadAhead 𝓜 s 0) (sym (message-free k)) tt);
-        known = λ w c. subst (KnownFact 𝓜 s) (sym (cell-free w c)) tt;
-        answers = λ k. subst (AnswerFact 𝓜 s) (sym (message-free k)) tt;
+        known = record { exes = λ w c. subst (KnownFact 𝓜 s) (sym (cell-free w c)) tt; answers = λ k. subst (AnswerFact 𝓜 s) (sym (message-free k)) tt };
         rank = λ a b. 0;
         ranked =
             record {
@@ -108,14 +107,14 @@ module _ (𝓜 : Machine) (p : ℕ) where
             };
       }
 
-pub start-invariant : (𝓜 : Machine) (p : ℕ) → succeeds (start 𝓜 p .outcome) ≡ true → Invariant 𝓜 (start 𝓜 p .after)
+-- of a refused start too, which gives the closed state
+pub start-invariant : (𝓜 : Machine) (p : ℕ) → Invariant 𝓜 (start 𝓜 p .after)
 unfolding start checked
-start-invariant 𝓜 p ok = go (eqb p 0 || ltb (𝓜 .workers) p) refl ok
+start-invariant 𝓜 p = go (eqb p 0 || ltb (𝓜 .workers) p) refl
   where
     go : (b : Bool) → (eqb p 0 || ltb (𝓜 .workers) p) ≡ b
-        → succeeds (refuse b WorkerCount (closed 𝓜) (record { outcome = Done 0; after = allFree 𝓜 p }) .outcome) ≡ true
         → Invariant 𝓜 (refuse b WorkerCount (closed 𝓜) (record { outcome = Done 0; after = allFree 𝓜 p }) .after)
-    go true t k = absurd-bool k refl
-    go false t k =
+    go true t = free-invariant 𝓜 0 (omega arith)
+    go false t =
         let n = or-no (eqb p 0) (ltb (𝓜 .workers) p) t in
         free-invariant 𝓜 p (ltb-false (𝓜 .workers) p (n .1))

@@ -19,7 +19,7 @@ use Rattle.rules.specs.Chains.{ahead, EndsIn}
 use Rattle.rules.specs.Facts.{Facts, ReadAhead, Reads, StatusFact, KnownFact, AnswerFact}
 use Rattle.rules.proofs.Named.{eq-both}
 use Rattle.rules.proofs.Derived.{reading-cell, LivePlace, named-place}
-use Rattle.rules.specs.Move.{Move, next, Keeps, Carries}
+use Rattle.rules.specs.Move.{Move, next, Keeps, ReadsOn, TrueValues, Carries}
 use Rattle.rules.proofs.Stored.{stored-each}
 use Rattle.rules.proofs.Next.{cell-stored, messages-all}
 use Rattle.rules.proofs.Kept.{shown-name, reading-shown, facts-kept}
@@ -75,20 +75,23 @@ module _ (𝓜 : Machine) (s : Tables) (h : Move) (F : Facts 𝓜 s) (K : Keeps 
   known-kept v d (Ex o e n st a) q f =
       status-kept (At o e) st (subst (LivePlace 𝓜 (next 𝓜 s h)) (ap namedBy q) (named-place 𝓜 (next 𝓜 s h) F′ v d)) f
 
-  module _ (C : Carries 𝓜 s h) where
-    pub reads-kept : Reads 𝓜 s → Reads 𝓜 (next 𝓜 s h)
-    reads-kept old =
-        messages-all 𝓜 s h (F .sized) (K .placed) (λ m. (n : ℕ) × ReadAhead 𝓜 (next 𝓜 s h) n m)
-        (λ j. (old j .0, read-kept j (old j .0) (message s j) refl (old j .1)))
-        (C .read-ok)
+  pub reads-kept : ReadsOn 𝓜 s h → Reads 𝓜 s → Reads 𝓜 (next 𝓜 s h)
+  reads-kept on old =
+      messages-all 𝓜 s h (F .sized) (K .placed) (λ m. (n : ℕ) × ReadAhead 𝓜 (next 𝓜 s h) n m)
+      (λ j. (old j .0, read-kept j (old j .0) (message s j) refl (old j .1)))
+      on
 
-    pub answers-kept : ((j : ℕ) → AnswerFact 𝓜 s (message s j)) → (j : ℕ) → AnswerFact 𝓜 (next 𝓜 s h) (message (next 𝓜 s h) j)
+  module _ (C : Carries 𝓜 s h) where
+    answers-kept : ((j : ℕ) → AnswerFact 𝓜 s (message s j)) → (j : ℕ) → AnswerFact 𝓜 (next 𝓜 s h) (message (next 𝓜 s h) j)
     answers-kept old =
         messages-all 𝓜 s h (F .sized) (K .placed) (AnswerFact 𝓜 (next 𝓜 s h)) (λ j. answer-kept j (message s j) refl (old j)) (C .answer-ok)
 
-    pub known-after : ((v d : ℕ) → KnownFact 𝓜 s (cell 𝓜 s v d)) → (v d : ℕ) → KnownFact 𝓜 (next 𝓜 s h) (cell 𝓜 (next 𝓜 s h) v d)
+    known-after : ((v d : ℕ) → KnownFact 𝓜 s (cell 𝓜 s v d)) → (v d : ℕ) → KnownFact 𝓜 (next 𝓜 s h) (cell 𝓜 (next 𝓜 s h) v d)
     known-after old v d =
         stored-each (cell-stored 𝓜 s h (F .sized) (K .placed)) (λ v d x y. KnownFact 𝓜 s x → cell 𝓜 (next 𝓜 s h) v d ≡ y → KnownFact 𝓜 (next 𝓜 s h) y)
         (λ f q. ⊎-elim (λ g. known-kept (h .w) (h .c) (h .k) q (g f)) (λ g. g) (C .known-ok))
         (λ v d t f q. known-kept v d (cell 𝓜 s v d) q f)
         v d (old v d) refl
+
+    pub known-kept-all : TrueValues 𝓜 s → TrueValues 𝓜 (next 𝓜 s h)
+    known-kept-all old = record { exes = known-after (old .exes); answers = answers-kept (old .answers) }

@@ -14,8 +14,7 @@ use Rattle.tables.specs.Parts.{isVar, namedBy}
 use Rattle.tables.specs.Look.{entry}
 use Rattle.rules.specs.Chains.{entryEnd, follow, ahead, EndsIn}
 use Rattle.rules.proofs.Named.{nowhere-at}
-use Rattle.rules.proofs.Onward.{ahead-nowhere}
-use Rattle.rules.proofs.Arrive.{ahead-add}
+use Rattle.rules.proofs.Walks.{ahead-nowhere, ahead-add}
 
 module _ (𝓜 : Machine) (s : Tables) where
   -- a step goes to what the end of the entry's cell names

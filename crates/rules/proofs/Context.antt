@@ -1,30 +1,29 @@
 -- A reference keeps its context: what refers to an entry refers to a live one, and a move leaves what a live entry leads to. Assumes nothing.
 use Prim.Native.Nat.{ℕ, _≤_}
 use native.Mathlib.Omega.{arith}
-use mathlib.Core.Path.{_≡_, refl, sym, ap, ap₂, subst, _∙_}
-use mathlib.Core.Bool.{Bool, true, false, _&&_, _||_, cond}
+use mathlib.Core.Path.{_≡_, refl, sym, ap, ap₂, _∙_}
+use mathlib.Core.Bool.{Bool, true, _&&_, _||_, cond}
 use lib.Dec.{eqb}
 use borrow.Author.Tests.{eq-eqb}
 use Rattle.numbers.specs.Tests.{absurd-bool}
 use Rattle.tables.specs.declared.Kind.{Kind}
 use Rattle.tables.specs.declared.Kind.the-variants.{Free, Var, Val, Ref, Ex}
 use Rattle.tables.specs.declared.Holding.{Holding}
-use Rattle.tables.specs.declared.Holding.the-variants.{Unused, Live}
 use Rattle.tables.specs.declared.Message.{Message}
 use Rattle.tables.specs.declared.Message.the-variants.{Empty, Reference, Release, Read, Answer, Ask, Supply}
 use Rattle.tables.specs.declared.Place.the-variants.{At}
 use Rattle.tables.specs.Machine.{Machine, Tables}
-use Rattle.tables.specs.Parts.{isFree, isVar, isVal, isEx, isLive, entryNames, cellOf}
-use Rattle.tables.specs.Look.{cell, entry, endKind, exported, message}
-use Rattle.rules.specs.Chains.{entryEnd, ahead, LeadsTo}
+use Rattle.tables.specs.Parts.{isFree, isVar, isVal, isLive, entryNames, cellOf}
+use Rattle.tables.specs.Look.{cell, entry, exported, message}
+use Rattle.rules.specs.Chains.{ahead, LeadsTo}
 use Rattle.rules.specs.Sound.{messageHolds}
-use Rattle.rules.specs.Facts.{CellFact, MessageFact, Facts, Reads}
+use Rattle.rules.specs.Facts.{MessageFact, Facts, Reads}
 use Rattle.rules.specs.Move.{Move, next, shown, Keeps, Makes, nothing, moved}
 use Rattle.rules.specs.Statements.{messageNames, Continues, as-it-was, given-a-value, bound-to, KeepsContext}
 use Rattle.rules.proofs.Named.{the-live, the-entry-of, names-live-entry, both-eq, eq-both}
 use Rattle.rules.proofs.Busy.{exported-by}
 use Rattle.rules.proofs.Derived.{live-fact, held-live, sent-held, names-live, LivePlace, live-place, ahead-place, read-live}
-use Rattle.rules.proofs.Kept.{shown-plain, exported-shown, VarAfter, var-or-val, ref-to-safe, var-after, live-kept, end-self, end-ref, facts-kept}
+use Rattle.rules.proofs.Kept.{shown-plain, exported-shown, VarAfter, var-or-val, ref-to-safe, var-after, live-kept, facts-kept}
 use Rattle.rules.proofs.Onward.{ahead-kept}
 
 module _ (𝓜 : Machine) (s : Tables) (F : Facts 𝓜 s) where
@@ -50,36 +49,6 @@ module _ (𝓜 : Machine) (s : Tables) (F : Facts 𝓜 s) where
       go (Answer r c v) q t f = absurd-bool t refl
       go (Ask x c a b) q t f = here a b t (names-live 𝓜 s F x c a b f)
       go (Supply x c n) q t f = absurd-bool t refl
-
-  -- ---- a live entry whose cell has a VAR or a VAL as its end names that VAR or VAL itself
-  own-end : (o d : ℕ) → (isVar (endKind 𝓜 s o d) || isVal (endKind 𝓜 s o d)) ≡ true → endKind 𝓜 s o d ≡ cell 𝓜 s o d
-  own-end o d t = go (cell 𝓜 s o d) refl
-    where
-      go : (k : Kind) → cell 𝓜 s o d ≡ k → endKind 𝓜 s o d ≡ cell 𝓜 s o d
-      go Free q = end-self 𝓜 s o d Free q refl ∙ sym q
-      go Var q = end-self 𝓜 s o d Var q refl ∙ sym q
-      go (Val n) q = end-self 𝓜 s o d (Val n) q refl ∙ sym q
-      go (Ref y) q =
-          let f : CellFact 𝓜 s o (Ref y) = subst (CellFact 𝓜 s o) q (F .cells o d) in
-          absurd-bool t (plain-not-ex (endKind 𝓜 s o d) (ap isEx (end-ref 𝓜 s o d y q) ∙ f .1))
-        where
-          plain-not-ex : (k : Kind) → isEx k ≡ true → (isVar k || isVal k) ≡ false
-          plain-not-ex Free u = absurd-bool u refl
-          plain-not-ex Var u = absurd-bool u refl
-          plain-not-ex (Val n) u = absurd-bool u refl
-          plain-not-ex (Ref z) u = absurd-bool u refl
-          plain-not-ex (Ex a b n st w) u = refl
-      go (Ex a b n st w) q = end-self 𝓜 s o d (Ex a b n st w) q refl ∙ sym q
-
-  pub own-context : (a b : ℕ) → isLive (entry 𝓜 s a b) ≡ true
-      → (isVar (entryEnd 𝓜 s a (entry 𝓜 s a b)) || isVal (entryEnd 𝓜 s a (entry 𝓜 s a b))) ≡ true
-      → (entryNames (cellOf (entry 𝓜 s a b)) (entry 𝓜 s a b) ≡ true) × ((isVar (cell 𝓜 s a (cellOf (entry 𝓜 s a b))) || isVal (cell 𝓜 s a (cellOf (entry 𝓜 s a b)))) ≡ true)
-  own-context a b live = go (entry 𝓜 s a b) live
-    where
-      go : (x : Holding) → isLive x ≡ true → (isVar (entryEnd 𝓜 s a x) || isVal (entryEnd 𝓜 s a x)) ≡ true
-          → (entryNames (cellOf x) x ≡ true) × ((isVar (cell 𝓜 s a (cellOf x)) || isVal (cell 𝓜 s a (cellOf x))) ≡ true)
-      go Unused l t = absurd-bool l refl
-      go (Live d n u) l t = (eq-eqb d d refl, sym (ap (λ (k : Kind). isVar k || isVal k) (own-end a d t)) ∙ t)
 
 -- ---- from one state to the next
 module _ (𝓜 : Machine) (s : Tables) (h : Move) (F : Facts 𝓜 s) (K : Keeps 𝓜 s h) where
@@ -143,4 +112,4 @@ context-made 𝓜 s t F (nothing) o e live live′ =
       same-steps = λ w c x. (x .there, x .names);
       same-context = λ w c x. as-it-was refl;
     }
-context-made 𝓜 s t F (moved h K C) o e live live′ = context-kept 𝓜 s h F K o e live live′
+context-made 𝓜 s t F (moved h K on C) o e live live′ = context-kept 𝓜 s h F K o e live live′

@@ -9,30 +9,22 @@ use lib.Arith.{digits-lt, digits-div, digits-mod}
 use lib.Dec.{leb}
 use borrow.Author.Tests.{le-leb, lt-leb, leb-true}
 use Rattle.numbers.specs.Below.{sumBelow, bit, countBelow}
-use Rattle.numbers.specs.Tests.{absurd-bool}
 use Rattle.numbers.specs.BelowLaws.{sum-mono, sum-less, count-le, term-le}
 use Rattle.numbers.specs.ListLaws.{total-below}
 use Rattle.tables.specs.declared.Entry.{Entry}
-use Rattle.tables.specs.declared.Kind.{Kind}
-use Rattle.tables.specs.declared.Kind.the-variants.{Free, Var, Val, Ref, Ex}
 use Rattle.tables.specs.declared.Holding.the-variants.{Unused}
-use Rattle.tables.specs.declared.Place.{Place}
-use Rattle.tables.specs.declared.Place.the-variants.{Nowhere, At}
-use Rattle.tables.specs.declared.Message.{Message}
-use Rattle.tables.specs.declared.Message.the-variants.{Read}
+use Rattle.tables.specs.declared.Place.the-variants.{At}
 use Rattle.tables.specs.Machine.{Machine, Tables}
-use Rattle.tables.specs.Parts.{isFree, isVar, isVal, isEx, namedBy, isLive}
-use Rattle.tables.specs.Look.{holdingAt, cell, entry, endKind, liveEntries, message}
+use Rattle.tables.specs.Parts.{isVar, isVal, isLive}
+use Rattle.tables.specs.Look.{holdingAt, entry, liveEntries}
 use Rattle.tables.specs.Laws.{entry-in}
-use Rattle.rules.specs.Chains.{entryEnd, follow, ahead}
+use Rattle.rules.specs.Chains.{entryEnd, ahead}
 use Rattle.rules.specs.Machines.{Laws, Sized}
-use Rattle.rules.specs.Facts.{CellFact, Facts, ReadAhead, Reads, ReadsWithin}
+use Rattle.rules.specs.Facts.{Facts}
 use Rattle.rules.proofs.Inside.{entry-inside}
-use Rattle.rules.proofs.Named.{nowhere-at, the-live, the-ex}
-use Rattle.rules.proofs.Derived.{live-fact, LivePlace, named-place, follow-place, ahead-place, read-within}
+use Rattle.rules.proofs.Ends.{EndIs, plain, leads, entry-end-is, entry-leads}
+use Rattle.rules.proofs.Derived.{follow-place}
 use Rattle.rules.specs.Move.{Ranked}
-use Rattle.rules.proofs.Kept.{end-ref, end-self}
-use Rattle.rules.proofs.Onward.{ahead-nowhere, follow-live}
 
 bit-le : (a b : Bool) → bit (a && b) ≤ bit a
 bit-le true true = omega arith
@@ -103,74 +95,6 @@ module _ (𝓜 : Machine) (L : Laws 𝓜) (s : Tables) (z : Sized 𝓜 s) (r : �
       (omega (arith, ap bit (low .1), ap bit (own .1), ap bit (lt-leb (r a b) ρ less), ap bit (le-leb (r a b) (r a b) (omega arith))))
 
 module _ (𝓜 : Machine) (L : Laws 𝓜) (s : Tables) (F : Facts 𝓜 s) (r : ℕ → ℕ → ℕ) (R : Ranked 𝓜 s r) where
-  -- a walk of n steps comes at least n live entries lower
-  pub walk-low : (n a b o e : ℕ) → isLive (entry 𝓜 s a b) ≡ true → ahead 𝓜 s n (At a b) ≡ At o e → n + standing 𝓜 s r (r o e) ≤ standing 𝓜 s r (r a b)
-  unfolding ahead
-  walk-low zero a b o e l q =
-      let p : a ≡ o = cc in
-      let t : b ≡ e = cc in
-      omega (arith, ap (λ (u : ℕ). standing 𝓜 s r (r u b)) p, ap (λ (u : ℕ). standing 𝓜 s r (r o u)) t)
-  walk-low (suc n) a b o e l q = go (follow 𝓜 s (At a b)) refl (λ a′ b′. walk-low n a′ b′ o e)
-    where
-      go : (p : Place) → follow 𝓜 s (At a b) ≡ p
-          → ((a′ b′ : ℕ) → isLive (entry 𝓜 s a′ b′) ≡ true → ahead 𝓜 s n (At a′ b′) ≡ At o e → n + standing 𝓜 s r (r o e) ≤ standing 𝓜 s r (r a′ b′))
-          → suc n + standing 𝓜 s r (r o e) ≤ standing 𝓜 s r (r a b)
-      go Nowhere i rec = nowhere-at (sym (ahead-nowhere 𝓜 s n) ∙ sym (ap (ahead 𝓜 s n) i) ∙ q)
-      go (At a′ b′) i rec =
-          let live = follow-place 𝓜 s F (At a b) a′ b′ i in
-          let rest = rec a′ b′ live (sym (ap (ahead 𝓜 s n) i) ∙ q) in
-          omega (arith, standing-falls 𝓜 L s (F .sized) r a b (r a′ b′) l (R .falls a b a′ b′ i))
-
-  -- so a Read is reached in fewer steps than there are entries
-  pub reads-within : Reads 𝓜 s → ReadsWithin 𝓜 s
-  reads-within reads k =
-      read-within 𝓜 s L (message s k)
-      (λ rd c o e q.
-      let x : (n : ℕ) × ReadAhead 𝓜 s n (Read rd c o e) = subst (λ (m : Message). (n : ℕ) × ReadAhead 𝓜 s n m) q (reads k) in
-      (x .0, from (x .0) rd c o e (namedBy (cell 𝓜 s rd c)) refl (x .1), x .1))
-    where
-      from : (n rd c o e : ℕ) (p : Place) → namedBy (cell 𝓜 s rd c) ≡ p → ahead 𝓜 s n p ≡ At o e → n < 𝓜 .workers * 𝓜 .entries
-      from n rd c o e Nowhere i q = nowhere-at (sym (ahead-nowhere 𝓜 s n) ∙ q)
-      from n rd c o e (At a b) i q =
-          let live = named-place 𝓜 s F rd c a b i in
-          let last = ahead-place 𝓜 s F n (At a b) (subst (LivePlace 𝓜 s) i (named-place 𝓜 s F rd c)) o e q in
-          omega (arith, walk-low n a b o e live q, standing-some 𝓜 L s (F .sized) r o e last, standing-all 𝓜 L s (F .sized) r (r a b))
-
-  -- ---- the end of a live entry's cell
-  pub data EndIs (o : ℕ) (k : Kind) : Type 0 where
-    plain : (isVar k || isVal k) ≡ true → EndIs o k
-    leads : (a b : ℕ) → namedBy k ≡ At a b → EndIs o k
-
-  pub end-is : (o d : ℕ) → isFree (cell 𝓜 s o d) ≡ false → EndIs o (endKind 𝓜 s o d)
-  end-is o d nf = go (cell 𝓜 s o d) refl nf
-    where
-      ex-end : (k : Kind) → isEx k ≡ true → EndIs o k
-      ex-end k t =
-          let x = the-ex k t in
-          leads (x .owner) (x .entry) (ap namedBy (x .is))
-
-      go : (k : Kind) → cell 𝓜 s o d ≡ k → isFree k ≡ false → EndIs o (endKind 𝓜 s o d)
-      go Free q t = absurd-bool refl t
-      go Var q t = plain (ap (λ (k : Kind). isVar k || isVal k) (end-self 𝓜 s o d Var q refl))
-      go (Val n) q t = plain (ap (λ (k : Kind). isVar k || isVal k) (end-self 𝓜 s o d (Val n) q refl))
-      go (Ref y) q t =
-          let f : CellFact 𝓜 s o (Ref y) = subst (CellFact 𝓜 s o) q (F .cells o d) in
-          ex-end (endKind 𝓜 s o d) (ap isEx (end-ref 𝓜 s o d y q) ∙ f .1)
-      go (Ex a b n st w) q t = ex-end (endKind 𝓜 s o d) (ap isEx (end-self 𝓜 s o d (Ex a b n st w) q refl))
-
-  pub entry-end-is : (o e : ℕ) → isLive (entry 𝓜 s o e) ≡ true → EndIs o (entryEnd 𝓜 s o (entry 𝓜 s o e))
-  entry-end-is o e t =
-      let l = the-live (entry 𝓜 s o e) t in
-      subst (EndIs o) (sym (ap (entryEnd 𝓜 s o) (l .is))) (end-is o (l .cell) (live-fact 𝓜 s F o e l .2))
-
-  -- a step from a live entry whose end names another
-  pub entry-leads : (o e a b : ℕ) → isLive (entry 𝓜 s o e) ≡ true → namedBy (entryEnd 𝓜 s o (entry 𝓜 s o e)) ≡ At a b → follow 𝓜 s (At o e) ≡ At a b
-  entry-leads o e a b t q =
-      let l = the-live (entry 𝓜 s o e) t in
-      follow-live 𝓜 s o e (l .cell) (l .weight) (l .tainted) (l .is)
-      ∙ sym (ap (λ x. namedBy (entryEnd 𝓜 s o x)) (l .is))
-      ∙ q
-
   -- every walk comes to a VAR or a VAL, in fewer steps than there are live entries
   pub record ComesToEnd (a b : ℕ) : Type 0 where
     pub steps : ℕ
@@ -183,13 +107,13 @@ module _ (𝓜 : Machine) (L : Laws 𝓜) (s : Tables) (F : Facts 𝓜 s) (r : �
   comes-within : (fuel a b : ℕ) → standing 𝓜 s r (r a b) ≤ fuel → isLive (entry 𝓜 s a b) ≡ true → ComesToEnd a b
   unfolding ahead
   comes-within zero a b h l = absurd (omega (arith, standing-some 𝓜 L s (F .sized) r a b l))
-  comes-within (suc fuel) a b h l = go (entry-end-is a b l) (λ a′ b′. comes-within fuel a′ b′)
+  comes-within (suc fuel) a b h l = go (entry-end-is 𝓜 s F a b l) (λ a′ b′. comes-within fuel a′ b′)
     where
-      go : EndIs a (entryEnd 𝓜 s a (entry 𝓜 s a b))
+      go : EndIs (entryEnd 𝓜 s a (entry 𝓜 s a b))
           → ((a′ b′ : ℕ) → standing 𝓜 s r (r a′ b′) ≤ fuel → isLive (entry 𝓜 s a′ b′) ≡ true → ComesToEnd a′ b′) → ComesToEnd a b
       go (plain t) rec = record { steps = 0; owner = a; number = b; few = standing-some 𝓜 L s (F .sized) r a b l; there = refl; end-plain = t }
       go (leads a′ b′ q) rec =
-          let step = entry-leads a b a′ b′ l q in
+          let step = entry-leads 𝓜 s F a b a′ b′ l q in
           let live = follow-place 𝓜 s F (At a b) a′ b′ step in
           let less = standing-falls 𝓜 L s (F .sized) r a b (r a′ b′) l (R .falls a b a′ b′ step) in
           let rest = rec a′ b′ (omega arith) live in

@@ -1,7 +1,6 @@
--- What follows from the facts: ranges, live entries, weights below the ceiling, a waiting cell for each message that needs one; and how far
--- a Read's entry is ahead, for every message. Assumes nothing.
-use Prim.Native.Nat.{ℕ, zero, suc, _*_, _<_, _≤_}
-use native.Mathlib.Nat.{mul-pos}
+-- What follows from the facts: ranges, live entries, weights below the ceiling, a waiting cell for each message that needs one, and
+-- the live entry of a Read. Assumes nothing.
+use Prim.Native.Nat.{ℕ, zero, suc, _<_, _≤_}
 use native.Mathlib.Omega.{arith}
 use mathlib.Core.Path.{_≡_, refl, sym, ap, ap₂, subst, _∙_}
 use mathlib.Core.Bool.{Bool, true, false}
@@ -14,7 +13,7 @@ use Rattle.tables.specs.declared.Kind.the-variants.{Free, Var, Val, Ref, Ex}
 use Rattle.tables.specs.declared.Holding.{Holding}
 use Rattle.tables.specs.declared.Holding.the-variants.{Unused, Live}
 use Rattle.tables.specs.declared.Message.{Message}
-use Rattle.tables.specs.declared.Message.the-variants.{Empty, Reference, Release, Read, Answer, Ask, Supply}
+use Rattle.tables.specs.declared.Message.the-variants.{Empty, Read}
 use Rattle.tables.specs.declared.Place.{Place}
 use Rattle.tables.specs.declared.Place.the-variants.{Nowhere, At}
 use Rattle.tables.specs.Machine.{Machine, Tables}
@@ -22,7 +21,6 @@ use Rattle.tables.specs.Parts.{isFree, isReading, isAsking, exNames, namedBy, i
 use Rattle.tables.specs.Look.{cell, entry, end, endKind, message}
 use Rattle.rules.specs.Chains.{through, follow, ahead}
 use Rattle.rules.specs.Sound.{readsFor, asksFor, readsOf, asksOf, cellHolds, messageHolds, held}
-use Rattle.rules.specs.Machines.{Laws}
 use Rattle.rules.specs.Facts.{CellFact, EntryFact, Facts, ReadAhead, Reads}
 use Rattle.rules.proofs.Inside.{entry-inside, cell-total, message-total}
 use Rattle.rules.proofs.Named.{eq-both, nowhere-at, named-ex, IsLive, the-live, the-ex-of}
@@ -154,19 +152,3 @@ module _ (𝓜 : Machine) (s : Tables) (F : Facts 𝓜 s) where
   read-live reads k r c o e q =
       let at : (n : ℕ) × ReadAhead 𝓜 s n (Read r c o e) = subst (λ (m : Message). (n : ℕ) × ReadAhead 𝓜 s n m) q (reads k) in
       ahead-place (at .0) (namedBy (cell 𝓜 s r c)) (named-place r c) o e (at .1)
-
--- ---- how far a Read's entry is ahead of its EX: a statement on every message, which says nothing of the others
-module _ (𝓜 : Machine) (s : Tables) (L : Laws 𝓜) where
-  some : 0 < 𝓜 .workers * 𝓜 .entries
-  some = mul-pos (L .workers-some) (L .entries-some)
-
-  pub read-within : (m : Message)
-      → ((r c o e : ℕ) → m ≡ Read r c o e → (n : ℕ) × (n < 𝓜 .workers * 𝓜 .entries) × (ahead 𝓜 s n (namedBy (cell 𝓜 s r c)) ≡ At o e))
-      → (n : ℕ) × (n < 𝓜 .workers * 𝓜 .entries) × ReadAhead 𝓜 s n m
-  read-within Empty read = (0, some, tt)
-  read-within (Reference to o e n) read = (0, some, tt)
-  read-within (Release o e n) read = (0, some, tt)
-  read-within (Read r c o e) read = read r c o e refl
-  read-within (Answer r c n) read = (0, some, tt)
-  read-within (Ask a c o e) read = (0, some, tt)
-  read-within (Supply a c n) read = (0, some, tt)

@@ -2,8 +2,8 @@
 use native.Mathlib.Omega.{arith}
 use Rattle.tables.specs.Machine.{eight}
 use Rattle.rules.specs.Machines.{Laws}
-use Rattle.rules.specs.Statements.{Demand3}
-use Rattle.rules.proofs.Whole.{demand-3}
+use Rattle.rules.specs.Statements.{CallsKeepSound, Demand3}
+use Rattle.rules.proofs.Whole.{calls-keep-sound, demand-3}
 
 pub eight-laws : Laws eight
 eight-laws =
@@ -19,3 +19,6 @@ eight-laws =
 
 pub demand-3-of-eight : Demand3 eight
 demand-3-of-eight = demand-3 eight eight-laws
+
+pub calls-keep-sound-of-eight : CallsKeepSound eight
+calls-keep-sound-of-eight = calls-keep-sound eight eight-laws

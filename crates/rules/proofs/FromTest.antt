@@ -1,11 +1,11 @@
 -- Where the soundness test says yes, the facts hold. Assumes nothing.
-use Prim.Native.Nat.{ℕ, zero, suc, _+_, _*_, _<_, _≤_}
+use Prim.Native.Nat.{ℕ, _+_, _<_, _≤_}
 use native.Mathlib.Omega.{arith}
 use mathlib.Core.Path.{_≡_, refl, sym, ap, ap₂, _∙_}
 use mathlib.Core.Bool.{Bool, true, false, _&&_, _||_, not, cond}
 use lib.Dec.{ltb, leb, eqb}
 use borrow.Author.Tests.{ltb-true, ltb-false, leb-true, eqb-true, eq-eqb, not-true}
-use Rattle.numbers.specs.Below.{bit, walkMeets}
+use Rattle.numbers.specs.Below.{bit}
 use Rattle.numbers.specs.Lists.{total}
 use Rattle.numbers.specs.Tests.{absurd-bool, and-l, and-r, and-i, and-3, and-4, or-true, or-right, cond-zero, not-yes}
 use Rattle.numbers.specs.BelowLaws.{all-at, count-unique}
@@ -18,44 +18,20 @@ use Rattle.tables.specs.declared.Holding.{Holding}
 use Rattle.tables.specs.declared.Holding.the-variants.{Unused, Live}
 use Rattle.tables.specs.declared.Message.{Message}
 use Rattle.tables.specs.declared.Message.the-variants.{Empty, Reference, Release, Read, Answer, Ask, Supply}
-use Rattle.tables.specs.declared.Place.{Place}
-use Rattle.tables.specs.declared.Place.the-variants.{Nowhere, At}
 use Rattle.tables.specs.Machine.{Machine, Tables}
-use Rattle.tables.specs.Parts.{isFree, readingOf, isReading, isAsking, exNames, namedBy, isAt, isLive, entryNames, entryWeight, goesTo}
+use Rattle.tables.specs.Parts.{isFree, readingOf, isReading, isAsking, exNames, namedBy, isLive, entryNames, entryWeight, goesTo}
 use Rattle.tables.specs.Look.{cell, entry, endKind, booked, freeCells, message}
-use Rattle.rules.specs.Chains.{follow, ahead}
 use Rattle.rules.specs.Sound.{readsFor, asksFor, eachCell, kindInRange, messageInRange, cellInRange, entryInRange, exesNaming, cellNames, entriesNaming, varValOrSafe, entryNamesCell, readsOf, asksOf, cellAwaited, reached, messageHasIts, cellHolds, messageHolds, held, entryWeighs, roomForBooked, point1, point2, point3, point4, point5, point6, sound}
 use Rattle.rules.specs.Machines.{Laws, Sized}
-use Rattle.rules.specs.Facts.{CellFact, EntryFact, MessageFact, Facts, ReadAhead, ReadsWithin}
+use Rattle.rules.specs.Facts.{CellFact, EntryFact, MessageFact, Facts, ReadAhead, Reads}
 use Rattle.rules.proofs.Inside.{cell-inside, entry-inside, each-cell-at, each-entry-at, each-message-at, flat-none}
 use Rattle.rules.proofs.Named.{both-eq, ex-not-free, ExOf, the-ex-of, the-entry-of, names-live-entry}
-use Rattle.rules.proofs.Derived.{read-within}
+use Rattle.rules.proofs.Reach.{reached-ahead}
 
 -- a worker in use, where its cell is not free
 in-use : (b r : Bool) → ((b || false) && r) ≡ true → b ≡ true
 in-use true r h = refl
 in-use false r h = h
-
--- a walk that meets a place is ahead of where it starts
-pub walk-ahead : (𝓜 : Machine) (s : Tables) (o e n : ℕ) (p : Place) → walkMeets (isAt o e) (follow 𝓜 s) n p ≡ true
-    → (k : ℕ) × (k < n) × (ahead 𝓜 s k p ≡ At o e)
-unfolding walkMeets ahead
-walk-ahead 𝓜 s o e zero p h = absurd-bool h refl
-walk-ahead 𝓜 s o e (suc n) p h = go (isAt o e p) refl h (walk-ahead 𝓜 s o e n (follow 𝓜 s p))
-  where
-    at : (q : Place) → isAt o e q ≡ true → q ≡ At o e
-    at Nowhere t = absurd-bool t refl
-    at (At o′ e′) t =
-        let q = both-eq o′ o e′ e t in
-        rw (q .0, q .1)
-
-    go : (b : Bool) → isAt o e p ≡ b → cond b true (walkMeets (isAt o e) (follow 𝓜 s) n (follow 𝓜 s p)) ≡ true
-        → (walkMeets (isAt o e) (follow 𝓜 s) n (follow 𝓜 s p) ≡ true → (k : ℕ) × (k < n) × (ahead 𝓜 s k (follow 𝓜 s p) ≡ At o e))
-        → (k : ℕ) × (k < suc n) × (ahead 𝓜 s k p ≡ At o e)
-    go true t m later = (0, omega arith, at p t)
-    go false t m later =
-        let r = later m in
-        (suc (r .0), omega (arith, r .1), r .2)
 
 module _ (𝓜 : Machine) (L : Laws 𝓜) (s : Tables) (z : Sized 𝓜 s) (h : sound 𝓜 s ≡ true) where
   -- ---- the six points
@@ -188,11 +164,16 @@ module _ (𝓜 : Machine) (L : Laws 𝓜) (s : Tables) (z : Sized 𝓜 s) (h : s
   message-fact (Ask a c o e) i t = and-3 (isAsking (cell 𝓜 s a c)) (isLive (entry 𝓜 s o e)) (exNames o e (cell 𝓜 s a c)) t .2
   message-fact (Supply a c n) i t = tt
 
-  read-ahead : (m : Message) → messageHasIts 𝓜 s m ≡ true → (n : ℕ) × (n < 𝓜 .workers * 𝓜 .entries) × ReadAhead 𝓜 s n m
-  unfolding reached
-  read-ahead m t =
-      read-within 𝓜 s L m
-      (λ r c o e q. walk-ahead 𝓜 s o e (𝓜 .workers * 𝓜 .entries) (namedBy (cell 𝓜 s r c)) (and-3 (isReading (cell 𝓜 s r c)) (isLive (entry 𝓜 s o e)) (reached 𝓜 s (namedBy (cell 𝓜 s r c)) o e) (sym (ap (messageHasIts 𝓜 s) q) ∙ t) .2))
+  read-ahead : (m : Message) → messageHasIts 𝓜 s m ≡ true → (n : ℕ) × ReadAhead 𝓜 s n m
+  read-ahead Empty t = (0, tt)
+  read-ahead (Reference to o e n) t = (0, tt)
+  read-ahead (Release o e n) t = (0, tt)
+  read-ahead (Read r c o e) t =
+      reached-ahead 𝓜 s (namedBy (cell 𝓜 s r c)) o e
+      (and-3 (isReading (cell 𝓜 s r c)) (isLive (entry 𝓜 s o e)) (reached 𝓜 s (namedBy (cell 𝓜 s r c)) o e) t .2)
+  read-ahead (Answer r c n) t = (0, tt)
+  read-ahead (Ask a c o e) t = (0, tt)
+  read-ahead (Supply a c n) t = (0, tt)
 
   -- ---- one message for a cell that waits, none for any other
   its-cell : (f : Kind → Bool) (r d w c : ℕ) → (eqb r w && eqb d c) ≡ true → f (cell 𝓜 s r d) ≡ true → f (cell 𝓜 s w c) ≡ true
@@ -334,5 +315,5 @@ module _ (𝓜 : Machine) (L : Laws 𝓜) (s : Tables) (z : Sized 𝓜 s) (h : s
         room = all-room;
       }
 
-  pub sound-reads : ReadsWithin 𝓜 s
+  pub sound-reads : Reads 𝓜 s
   sound-reads k = read-ahead (message s k) (has-its k)

@@ -2,17 +2,20 @@
 -- Computed: the order of the refusals, the numbered cases.
 pub mod Order
 pub mod Cases
--- The soundness test holds exactly where the facts of a sound state do.
+-- The soundness test holds exactly where the facts of a sound state do; the walk of a Read misses no entry.
 pub mod Inside
 pub mod Named
 pub mod Busy
 pub mod Derived
+pub mod Walks
+pub mod Reach
 pub mod FromTest
 pub mod ToTest
 -- A change that keeps what it must keeps the facts, the chains, what is known and the rank.
 pub mod Stored
 pub mod Next
 pub mod Kept
+pub mod Ends
 pub mod Onward
 pub mod Carried
 pub mod Rank
@@ -28,7 +31,6 @@ pub mod Entries
 pub mod Send
 pub mod Arrive
 pub mod Begun
-pub mod Reach
 -- Demand 3, for every machine, and at document 01's sizes.
 pub mod Chains
 pub mod Whole

@@ -96,7 +96,7 @@ module _ (𝓜 : Machine) (L : Laws 𝓜) (s : Tables) (F : Facts 𝓜 s) where
       let u = worker-used w (search) in
       let r = has-room 𝓜 L s F w (search) in
       let f = free-cell 𝓜 L s F w (omega arith) in
-      makes-cell 𝓜 L s F w c Free Var (new-moves w c (u .0) r (f .0) (f .1)) (record { read-ok = inl refl; answer-ok = inl refl; known-ok = inr tt }))
+      makes-cell 𝓜 L s F w c Free Var (new-moves w c (u .0) r (f .0) (f .1)) (inl refl) (λ t. record { answer-ok = inl refl; known-ok = inr tt }))
 
   -- ---- set and bind: a VAR gets its value, or becomes a REF
   var-moves : (w c : ℕ) (k : Kind) → cell 𝓜 s w c ≡ Var → CellFact 𝓜 (next 𝓜 s (cellMove 𝓜 s w c Var k 0 (message s 0) (message s 0))) w k
@@ -133,7 +133,7 @@ module _ (𝓜 : Machine) (L : Laws 𝓜) (s : Tables) (F : Facts 𝓜 s) where
       (λ p.
       let u = worker-used w (search) in
       let q = var-is (cell 𝓜 s w c) (not-false (search)) in
-      makes-cell 𝓜 L s F w c Var (Val n) (var-moves w c (Val n) q (u .0) (λ x. stays refl) refl refl) (record { read-ok = inl refl; answer-ok = inl refl; known-ok = inr tt }))
+      makes-cell 𝓜 L s F w c Var (Val n) (var-moves w c (Val n) q (u .0) (λ x. stays refl) refl refl) (inl refl) (λ t. record { answer-ok = inl refl; known-ok = inr tt }))
 
   pub bind-makes : (w c x : ℕ) → Makes 𝓜 s (bind 𝓜 s w c x .after)
   unfolding bind endKind
@@ -145,7 +145,7 @@ module _ (𝓜 : Machine) (L : Laws 𝓜) (s : Tables) (F : Facts 𝓜 s) where
       let q = var-is (cell 𝓜 s w c) (not-false (search)) in
       let ex : isEx (cell 𝓜 s w y) ≡ true = not-false (search) in
       let guarded : (exported 𝓜 s w c && not (safe 𝓜 s w (cell 𝓜 s w y))) ≡ false = search in
-      makes-cell 𝓜 L s F w c Var (Ref y) (var-moves w c (Ref y) q (u .0, ref-ex q ex) (λ e. bound y refl (safe-of (exported 𝓜 s w c) (safe 𝓜 s w (cell 𝓜 s w y)) e guarded)) refl refl) (record { read-ok = inl refl; answer-ok = inl refl; known-ok = inr tt }))
+      makes-cell 𝓜 L s F w c Var (Ref y) (var-moves w c (Ref y) q (u .0, ref-ex q ex) (λ e. bound y refl (safe-of (exported 𝓜 s w c) (safe 𝓜 s w (cell 𝓜 s w y)) e guarded)) refl refl) (inl refl) (λ t. record { answer-ok = inl refl; known-ok = inr tt }))
     where
       safe-of : (a b : Bool) → a ≡ true → (a && not b) ≡ false → b ≡ true
       safe-of true true e g = refl
@@ -217,7 +217,7 @@ module _ (𝓜 : Machine) (L : Laws 𝓜) (s : Tables) (F : Facts 𝓜 s) where
         holds-ok = inl refl;
         room = λ v. omega (arith, F .room v);
       }))
-      (record { read-ok = inl refl; answer-ok = inl refl; known-ok = inr tt })
+      (inl refl) (λ t. record { answer-ok = inl refl; known-ok = inr tt })
 
   -- an EX's whole weight goes into an empty slot, as a Reference or as a Release
   frees-sent : (w c o e n : ℕ) (st : Status) (a : Bool) (m : Message) → cell 𝓜 s w c ≡ Ex o e n st a → busy 𝓜 s w c ≡ false
@@ -240,7 +240,7 @@ module _ (𝓜 : Machine) (L : Laws 𝓜) (s : Tables) (F : Facts 𝓜 s) where
         holds-ok = inr (λ x y. z .holds (next 𝓜 s (cellMove 𝓜 s w c (Ex o e n st a) Free (lowestEmptySlot 𝓜 s) Empty m)) x y ∙ sym (z .holds s x y));
         room = room;
       }))
-      (record { read-ok = inr (0, z .no-ahead (next 𝓜 s (cellMove 𝓜 s w c (Ex o e n st a) Free (lowestEmptySlot 𝓜 s) Empty m))); answer-ok = inr (z .no-answer (next 𝓜 s (cellMove 𝓜 s w c (Ex o e n st a) Free (lowestEmptySlot 𝓜 s) Empty m))); known-ok = inr tt })
+      (inr (0, z .no-ahead (next 𝓜 s (cellMove 𝓜 s w c (Ex o e n st a) Free (lowestEmptySlot 𝓜 s) Empty m)))) (λ t. record { answer-ok = inr (z .no-answer (next 𝓜 s (cellMove 𝓜 s w c (Ex o e n st a) Free (lowestEmptySlot 𝓜 s) Empty m))); known-ok = inr tt })
 
   -- "transfer"
   pub transfer-makes : (w c to : ℕ) → Makes 𝓜 s (transfer 𝓜 s w c to .after)

@@ -28,14 +28,14 @@ use Rattle.rules.specs.Chains.{EndsIn}
 use Rattle.rules.specs.Facts.{Facts}
 use Rattle.rules.proofs.Inside.{cell-inside}
 use Rattle.rules.proofs.Derived.{LivePlace}
-use Rattle.rules.specs.Move.{Move, next, Keeps, Carries, Makes, moved, Ranked, Invariant}
+use Rattle.rules.specs.Move.{Move, next, Keeps, ReadsOn, TrueValues, Carries, Makes, moved, Ranked, Invariant}
 use Rattle.rules.proofs.Stored.{stored-each}
 use Rattle.rules.proofs.Next.{cell-stored, entry-stored, slots-total}
 use Rattle.rules.proofs.Onward.{ends-kept}
 use Rattle.rules.proofs.Rank.{was-or-new}
 use Rattle.rules.proofs.Stays.{invariant-kept, rank-kept}
 use Rattle.rules.proofs.Count.{standsAt, standing, standing-live}
-use Rattle.rules.proofs.Moves.{cellMove, entryMove, put-cell-message, put-entry-message, CellMoves, cell-keeps, ExMoves, ex-keeps, EntryMoves, entry-keeps}
+use Rattle.rules.proofs.Moves.{cellMove, entryMove, slotMove, put-cell-message, put-entry-message, put-message, CellMoves, cell-keeps, ExMoves, ex-keeps, EntryMoves, entry-keeps}
 
 -- what a message may still take: a Read one for itself, and one for each live entry that stands at most as high as its own
 abbrev pub spends : Machine → Tables → (ℕ → ℕ → ℕ) → Message → ℕ
@@ -103,9 +103,90 @@ kind-same (Val n) = tt
 kind-same (Ref d) = tt
 kind-same (Ex o e n st a) = record { weight = n; status = st; asking = a; is = refl; on = status-same st }
 
--- a delivery is a move: the invariant stays, by the same rank, and less is left to be delivered
+-- a delivery is a move that makes no entry; in a reached state it keeps what is true of those, and less is left to be delivered
+pub record Delivers (𝓜 : Machine) (s s′ : Tables) : Type 0 where
+  pub move : Move
+  pub keeps : Keeps 𝓜 s move
+  pub reads-on : ReadsOn 𝓜 s move
+  pub none-new : isLive (move .x) ≡ true → isLive (move .x₀) ≡ true
+  pub on : KindOn (move .k₀) (move .k)
+  pub is : next 𝓜 s move ≡ s′
+  pub carries : TrueValues 𝓜 s → Carries 𝓜 s move
+  pub less : (r : ℕ → ℕ → ℕ) → Ranked 𝓜 s r → spends 𝓜 (next 𝓜 s move) r (move .m) < spends 𝓜 (next 𝓜 s move) r (move .m₀)
+
+pub delivers-makes : (𝓜 : Machine) (s s′ : Tables) → Delivers 𝓜 s s′ → Makes 𝓜 s s′
+delivers-makes 𝓜 s s′ D = subst (Makes 𝓜 s) (D .is) (moved (D .move) (D .keeps) (D .reads-on) (D .carries))
+
+-- ---- over the rules' stores
+module _ (𝓜 : Machine) (L : Laws 𝓜) (s : Tables) (F : Facts 𝓜 s) where
+  pub delivers-cell : (w c : ℕ) (k₀ k : Kind) (i : ℕ) (m₀ m : Message) → CellMoves 𝓜 L s w c k₀ k i m₀ m
+      → ReadsOn 𝓜 s (cellMove 𝓜 s w c k₀ k i m₀ m) → (TrueValues 𝓜 s → Carries 𝓜 s (cellMove 𝓜 s w c k₀ k i m₀ m))
+      → ((r : ℕ → ℕ → ℕ) → Ranked 𝓜 s r → spends 𝓜 (next 𝓜 s (cellMove 𝓜 s w c k₀ k i m₀ m)) r m < spends 𝓜 (next 𝓜 s (cellMove 𝓜 s w c k₀ k i m₀ m)) r m₀)
+      → KindOn k₀ k → Delivers 𝓜 s (putMessage (putCell 𝓜 s w c k) i m)
+  delivers-cell w c k₀ k i m₀ m M reads carries less on =
+      record {
+        move = cellMove 𝓜 s w c k₀ k i m₀ m;
+        keeps = cell-keeps 𝓜 L s F w c k₀ k i m₀ m M;
+        reads-on = reads;
+        none-new = λ t. t;
+        on = on;
+        is = put-cell-message 𝓜 L s w c k₀ k i m₀ m (M .w-in) (M .c-in);
+        carries = carries;
+        less = less;
+      }
+
+  pub delivers-ex : (w c o e n₀ n : ℕ) (st₀ st : Status) (a₀ a : Bool) (i : ℕ) (m₀ m : Message) → ExMoves 𝓜 L s F w c o e n₀ n st₀ st a₀ a i m₀ m
+      → ReadsOn 𝓜 s (cellMove 𝓜 s w c (Ex o e n₀ st₀ a₀) (Ex o e n st a) i m₀ m)
+      → (TrueValues 𝓜 s → Carries 𝓜 s (cellMove 𝓜 s w c (Ex o e n₀ st₀ a₀) (Ex o e n st a) i m₀ m))
+      → ((r : ℕ → ℕ → ℕ) → Ranked 𝓜 s r → spends 𝓜 (next 𝓜 s (cellMove 𝓜 s w c (Ex o e n₀ st₀ a₀) (Ex o e n st a) i m₀ m)) r m < spends 𝓜 (next 𝓜 s (cellMove 𝓜 s w c (Ex o e n₀ st₀ a₀) (Ex o e n st a) i m₀ m)) r m₀)
+      → StatusOn st₀ st → Delivers 𝓜 s (putMessage (putCell 𝓜 s w c (Ex o e n st a)) i m)
+  delivers-ex w c o e n₀ n st₀ st a₀ a i m₀ m M reads carries less on =
+      let inside = cell-inside 𝓜 s w c (ap isFree (M .old-cell)) in
+      record {
+        move = cellMove 𝓜 s w c (Ex o e n₀ st₀ a₀) (Ex o e n st a) i m₀ m;
+        keeps = ex-keeps 𝓜 L s F w c o e n₀ n st₀ st a₀ a i m₀ m M;
+        reads-on = reads;
+        none-new = λ t. t;
+        on = record { weight = n; status = st; asking = a; is = refl; on = on };
+        is = put-cell-message 𝓜 L s w c (Ex o e n₀ st₀ a₀) (Ex o e n st a) i m₀ m (inside .0) (inside .1);
+        carries = carries;
+        less = less;
+      }
+
+  pub delivers-entry : (o e : ℕ) (x₀ x : Holding) (i : ℕ) (m₀ m : Message) → EntryMoves 𝓜 L s F o e x₀ x i m₀ m
+      → ReadsOn 𝓜 s (entryMove 𝓜 s o e x₀ x i m₀ m) → (TrueValues 𝓜 s → Carries 𝓜 s (entryMove 𝓜 s o e x₀ x i m₀ m)) → (isLive x ≡ true → isLive x₀ ≡ true)
+      → ((r : ℕ → ℕ → ℕ) → Ranked 𝓜 s r → spends 𝓜 (next 𝓜 s (entryMove 𝓜 s o e x₀ x i m₀ m)) r m < spends 𝓜 (next 𝓜 s (entryMove 𝓜 s o e x₀ x i m₀ m)) r m₀)
+      → Delivers 𝓜 s (putMessage (putEntry 𝓜 s o e x) i m)
+  delivers-entry o e x₀ x i m₀ m M reads carries old less =
+      record {
+        move = entryMove 𝓜 s o e x₀ x i m₀ m;
+        keeps = entry-keeps 𝓜 L s F o e x₀ x i m₀ m M;
+        reads-on = reads;
+        none-new = old;
+        on = kind-same (cell 𝓜 s 0 0);
+        is = put-entry-message 𝓜 L s o e x₀ x i m₀ m (M .o-in) (M .e-in);
+        carries = carries;
+        less = less;
+      }
+
+  pub delivers-slot : (i : ℕ) (m₀ m : Message) → Keeps 𝓜 s (slotMove 𝓜 s i m₀ m) → ReadsOn 𝓜 s (slotMove 𝓜 s i m₀ m)
+      → (TrueValues 𝓜 s → Carries 𝓜 s (slotMove 𝓜 s i m₀ m))
+      → ((r : ℕ → ℕ → ℕ) → Ranked 𝓜 s r → spends 𝓜 (next 𝓜 s (slotMove 𝓜 s i m₀ m)) r m < spends 𝓜 (next 𝓜 s (slotMove 𝓜 s i m₀ m)) r m₀)
+      → Delivers 𝓜 s (putMessage s i m)
+  delivers-slot i m₀ m K reads carries less =
+      record {
+        move = slotMove 𝓜 s i m₀ m;
+        keeps = K;
+        reads-on = reads;
+        none-new = λ t. t;
+        on = kind-same (cell 𝓜 s 0 0);
+        is = put-message 𝓜 L s i m₀ m;
+        carries = carries;
+        less = less;
+      }
+
+-- ---- a delivery in a reached state: the invariant stays, by the same rank, and less is left to be delivered
 pub record Arrived (𝓜 : Machine) (s : Tables) (r : ℕ → ℕ → ℕ) (s′ : Tables) : Type 0 where
-  pub makes : Makes 𝓜 s s′
   pub invariant : Invariant 𝓜 s′
   pub ranked : Ranked 𝓜 s′ r
   pub lower : measure 𝓜 s′ r < measure 𝓜 s r
@@ -131,14 +212,13 @@ module _ (𝓜 : Machine) (L : Laws 𝓜) (s : Tables) (I : Invariant 𝓜 s) (r
       le true b c f = subst (λ (z : Bool). bit c ≤ bit (z && c)) (sym (f refl)) (omega arith)
       le false b c f = omega arith
 
-  -- a change whose message takes less than the one before it
-  pub arrived : (h : Move) → (K : Keeps 𝓜 s h) → Carries 𝓜 s h → (isLive (h .x) ≡ true → isLive (h .x₀) ≡ true)
+  -- a move whose message takes less than the one before it
+  by-move : (h : Move) → Keeps 𝓜 s h → ReadsOn 𝓜 s h → Carries 𝓜 s h → (isLive (h .x) ≡ true → isLive (h .x₀) ≡ true)
       → spends 𝓜 (next 𝓜 s h) r (h .m) < spends 𝓜 (next 𝓜 s h) r (h .m₀) → KindOn (h .k₀) (h .k) → Arrived 𝓜 s r (next 𝓜 s h)
   unfolding measure
-  arrived h K C old less on =
+  by-move h K reads C old less on =
       record {
-        makes = moved h K C;
-        invariant = invariant-kept 𝓜 s h I K C;
+        invariant = invariant-kept 𝓜 s h I K reads C;
         ranked = rank-kept 𝓜 s h (I .facts) K r R old;
         lower =
             omega (
@@ -159,27 +239,7 @@ module _ (𝓜 : Machine) (L : Laws 𝓜) (s : Tables) (I : Invariant 𝓜 s) (r
       le (Ask a c o e) = omega arith
       le (Supply a c w) = omega arith
 
-  -- ---- over the rules' stores
-  pub arrived-cell : (w c : ℕ) (k₀ k : Kind) (i : ℕ) (m₀ m : Message) → CellMoves 𝓜 L s w c k₀ k i m₀ m → Carries 𝓜 s (cellMove 𝓜 s w c k₀ k i m₀ m)
-      → spends 𝓜 (next 𝓜 s (cellMove 𝓜 s w c k₀ k i m₀ m)) r m < spends 𝓜 (next 𝓜 s (cellMove 𝓜 s w c k₀ k i m₀ m)) r m₀ → KindOn k₀ k
-      → Arrived 𝓜 s r (putMessage (putCell 𝓜 s w c k) i m)
-  arrived-cell w c k₀ k i m₀ m M C less on =
-      subst (Arrived 𝓜 s r) (put-cell-message 𝓜 L s w c k₀ k i m₀ m (M .w-in) (M .c-in))
-      (arrived (cellMove 𝓜 s w c k₀ k i m₀ m) (cell-keeps 𝓜 L s (I .facts) w c k₀ k i m₀ m M) C (λ t. t) less on)
-
-  pub arrived-ex : (w c o e n₀ n : ℕ) (st₀ st : Status) (a₀ a : Bool) (i : ℕ) (m₀ m : Message)
-      → ExMoves 𝓜 L s (I .facts) w c o e n₀ n st₀ st a₀ a i m₀ m → Carries 𝓜 s (cellMove 𝓜 s w c (Ex o e n₀ st₀ a₀) (Ex o e n st a) i m₀ m)
-      → spends 𝓜 (next 𝓜 s (cellMove 𝓜 s w c (Ex o e n₀ st₀ a₀) (Ex o e n st a) i m₀ m)) r m < spends 𝓜 (next 𝓜 s (cellMove 𝓜 s w c (Ex o e n₀ st₀ a₀) (Ex o e n st a) i m₀ m)) r m₀
-      → StatusOn st₀ st → Arrived 𝓜 s r (putMessage (putCell 𝓜 s w c (Ex o e n st a)) i m)
-  arrived-ex w c o e n₀ n st₀ st a₀ a i m₀ m M C less on =
-      let inside = cell-inside 𝓜 s w c (ap isFree (M .old-cell)) in
-      subst (Arrived 𝓜 s r) (put-cell-message 𝓜 L s w c (Ex o e n₀ st₀ a₀) (Ex o e n st a) i m₀ m (inside .0) (inside .1))
-      (arrived (cellMove 𝓜 s w c (Ex o e n₀ st₀ a₀) (Ex o e n st a) i m₀ m) (ex-keeps 𝓜 L s (I .facts) w c o e n₀ n st₀ st a₀ a i m₀ m M) C (λ t. t) less (record { weight = n; status = st; asking = a; is = refl; on = on }))
-
-  pub arrived-entry : (o e : ℕ) (x₀ x : Holding) (i : ℕ) (m₀ m : Message) → EntryMoves 𝓜 L s (I .facts) o e x₀ x i m₀ m
-      → Carries 𝓜 s (entryMove 𝓜 s o e x₀ x i m₀ m) → (isLive x ≡ true → isLive x₀ ≡ true)
-      → spends 𝓜 (next 𝓜 s (entryMove 𝓜 s o e x₀ x i m₀ m)) r m < spends 𝓜 (next 𝓜 s (entryMove 𝓜 s o e x₀ x i m₀ m)) r m₀
-      → Arrived 𝓜 s r (putMessage (putEntry 𝓜 s o e x) i m)
-  arrived-entry o e x₀ x i m₀ m M C old less =
-      subst (Arrived 𝓜 s r) (put-entry-message 𝓜 L s o e x₀ x i m₀ m (M .o-in) (M .e-in))
-      (arrived (entryMove 𝓜 s o e x₀ x i m₀ m) (entry-keeps 𝓜 L s (I .facts) o e x₀ x i m₀ m M) C old less (kind-same (cell 𝓜 s 0 0)))
+  pub arrived : (s′ : Tables) → Delivers 𝓜 s s′ → Arrived 𝓜 s r s′
+  arrived s′ D =
+      subst (Arrived 𝓜 s r) (D .is)
+      (by-move (D .move) (D .keeps) (D .reads-on) (D .carries (I .known)) (D .none-new) (D .less r R) (D .on))

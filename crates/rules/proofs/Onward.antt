@@ -15,33 +15,14 @@ use Rattle.tables.specs.declared.Place.the-variants.{Nowhere, At}
 use Rattle.tables.specs.Machine.{Machine, Tables}
 use Rattle.tables.specs.Parts.{isFree, isVar, isEx, namedBy, isLive, entryNames, cellOf}
 use Rattle.tables.specs.Look.{cell, entry, endKind, safe, exported}
-use Rattle.rules.specs.Chains.{entryEnd, through, follow, ahead, EndsIn}
+use Rattle.rules.specs.Chains.{entryEnd, follow, ahead, EndsIn}
 use Rattle.rules.specs.Facts.{CellFact, Facts}
 use Rattle.rules.proofs.Named.{nowhere-at, the-live, IsLive}
+use Rattle.rules.proofs.Walks.{ahead-nowhere, follow-live, follow-from}
 use Rattle.rules.proofs.Busy.{exported-by}
 use Rattle.rules.proofs.Derived.{live-fact, LivePlace, follow-place, ahead-place}
 use Rattle.rules.specs.Move.{Move, next, shown, Keeps}
 use Rattle.rules.proofs.Kept.{shown-name, shown-plain, var-val-end, exported-shown, referred-shown, ex-after, VarAfter, var-or-val, ref-to-safe, var-after, live-kept, end-ref, end-self, facts-kept}
-
--- from nowhere no step leads on
-pub ahead-nowhere : (𝓜 : Machine) (s : Tables) (n : ℕ) → ahead 𝓜 s n Nowhere ≡ Nowhere
-unfolding ahead follow
-ahead-nowhere 𝓜 s zero = refl
-ahead-nowhere 𝓜 s (suc n) = ahead-nowhere 𝓜 s n
-
--- a live entry, taken apart, with what a step from it says
-pub follow-live : (𝓜 : Machine) (s : Tables) (a b d n : ℕ) (t : Bool) → entry 𝓜 s a b ≡ Live d n t → follow 𝓜 s (At a b) ≡ namedBy (endKind 𝓜 s a d)
-unfolding follow
-follow-live 𝓜 s a b d n t q = ap (through 𝓜 s a) q
-
--- where a step leads somewhere, it is from a live entry
-pub follow-from : (𝓜 : Machine) (s : Tables) (a b o e : ℕ) → follow 𝓜 s (At a b) ≡ At o e → IsLive (entry 𝓜 s a b)
-unfolding follow
-follow-from 𝓜 s a b o e q = go (entry 𝓜 s a b) refl q
-  where
-    go : (x : Holding) → entry 𝓜 s a b ≡ x → through 𝓜 s a x ≡ At o e → IsLive (entry 𝓜 s a b)
-    go Unused i p = nowhere-at p
-    go (Live d n t) i p = record { cell = d; weight = n; tainted = t; is = i }
 
 module _ (𝓜 : Machine) (s : Tables) (h : Move) (F : Facts 𝓜 s) (K : Keeps 𝓜 s h) where
   F′ : Facts 𝓜 (next 𝓜 s h)

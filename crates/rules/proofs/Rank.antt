@@ -22,7 +22,8 @@ use Rattle.rules.specs.Move.{Move, next, Keeps, Ranked}
 use Rattle.rules.proofs.Stored.{Stored, stored-each}
 use Rattle.rules.proofs.Next.{entry-stored}
 use Rattle.rules.proofs.Kept.{good-ex, live-kept, facts-kept}
-use Rattle.rules.proofs.Onward.{follow-live, follow-from, live-exported, after-live, end-kept, EndKept, as-before, newly-bound}
+use Rattle.rules.proofs.Walks.{follow-live, follow-from}
+use Rattle.rules.proofs.Onward.{live-exported, after-live, end-kept, EndKept, as-before, newly-bound}
 
 -- a safe EX names an untainted entry of a lower worker
 pub safe-ex : (𝓜 : Machine) (s : Tables) (v o e : ℕ) (k : Kind) → safe 𝓜 s v k ≡ true → namedBy k ≡ At o e → (o < v) × (isTainted (entry 𝓜 s o e) ≡ false)

@@ -16,11 +16,8 @@ use Rattle.tables.specs.Look.{entry}
 use Rattle.rules.specs.Chains.{follow, ahead}
 use Rattle.rules.specs.Sound.{reached}
 use Rattle.rules.proofs.Inside.{entry-inside}
-use Rattle.rules.proofs.FromTest.{walk-ahead}
-use Rattle.rules.proofs.ToTest.{ahead-walk}
 use Rattle.rules.proofs.Named.{nowhere-at}
-use Rattle.rules.proofs.Onward.{ahead-nowhere, follow-from}
-use Rattle.rules.proofs.Arrive.{ahead-add}
+use Rattle.rules.proofs.Walks.{ahead-nowhere, follow-from, ahead-add, walk-ahead, ahead-walk}
 
 -- a place that is a live entry
 record LiveAt (𝓜 : Machine) (s : Tables) (p : Place) : Type 0 where

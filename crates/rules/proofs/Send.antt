@@ -77,7 +77,7 @@ module _ (𝓜 : Machine) (L : Laws 𝓜) (s : Tables) (F : Facts 𝓜 s) where
         holds-ok = λ a b. refl;
         room = room-sent 𝓜 L s F to w e (𝓜 .firstWeight) (l .room);
       })
-      (record { read-ok = inr (0, tt); answer-ok = inr tt; known-ok = inl (λ k. k) })
+      (inr (0, tt)) (λ t. record { answer-ok = inr tt; known-ok = inl (λ k. k) })
 
   by-location-makes : (w x to : ℕ) (taint : Bool) → Locates w x to taint → Makes 𝓜 s (byLocation 𝓜 s w x to taint .after)
   unfolding byLocation entryToUse
@@ -141,7 +141,7 @@ module _ (𝓜 : Machine) (L : Laws 𝓜) (s : Tables) (F : Facts 𝓜 s) where
         holds-ok = λ a b. refl;
         room = room-sent 𝓜 L s F to o e part room;
       })
-      (record { read-ok = inr (0, tt); answer-ok = inr tt; known-ok = inl (λ k. k) }))
+      (inr (0, tt)) (λ t. record { answer-ok = inr tt; known-ok = inl (λ k. k) }))
 
   -- ---- the end of a cell that is no REF's is its own
   end-not-ref : (w c : ℕ) → isFree (cell 𝓜 s w c) ≡ false → (isFree (endKind 𝓜 s w c) ≡ false) × (endKind 𝓜 s w (end 𝓜 s w c) ≡ cell 𝓜 s w (end 𝓜 s w c))
@@ -241,7 +241,7 @@ module _ (𝓜 : Machine) (L : Laws 𝓜) (s : Tables) (F : Facts 𝓜 s) where
         holds-ok = λ a b. refl;
         room = room-same 𝓜 L s F;
       })
-      (record { read-ok = inr (0, ap namedBy (here-named w x o e n n Idle Reading a a k (Read w x o e) (slot .0) (slot .1) q)); answer-ok = inr tt; known-ok = inr tt })
+      (inr (0, ap namedBy (here-named w x o e n n Idle Reading a a k (Read w x o e) (slot .0) (slot .1) q))) (λ t. record { answer-ok = inr tt; known-ok = inr tt })
 
   pub read-makes : (w c : ℕ) → Makes 𝓜 s (read 𝓜 s w c .after)
   unfolding read endKind
@@ -280,7 +280,7 @@ module _ (𝓜 : Machine) (L : Laws 𝓜) (s : Tables) (F : Facts 𝓜 s) where
         holds-ok = λ a b. refl;
         room = room-same 𝓜 L s F;
       })
-      (record { read-ok = inr (0, tt); answer-ok = inr tt; known-ok = inl (λ k. k) })
+      (inr (0, tt)) (λ t. record { answer-ok = inr tt; known-ok = inl (λ k. k) })
 
   pub ask-makes : (w c : ℕ) → Makes 𝓜 s (ask 𝓜 s w c .after)
   unfolding ask endKind

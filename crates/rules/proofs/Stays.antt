@@ -12,14 +12,14 @@ use Rattle.tables.specs.Machine.{Machine, Tables}
 use Rattle.tables.specs.Parts.{namedBy, isLive, isTainted}
 use Rattle.tables.specs.Look.{entry, endKind}
 use Rattle.rules.specs.Chains.{follow}
-use Rattle.rules.specs.Facts.{Facts}
+use Rattle.rules.specs.Facts.{Facts, Reads}
 use Rattle.rules.proofs.Named.{the-live, both-eq, eq-both}
 use Rattle.rules.proofs.Derived.{live-fact, follow-place}
-use Rattle.rules.specs.Move.{Move, next, Keeps, Carries, Makes, nothing, moved, Ranked, Invariant}
+use Rattle.rules.specs.Move.{Move, next, Keeps, ReadsOn, Carries, Makes, nothing, moved, Ranked, Invariant}
 use Rattle.rules.proofs.Next.{entry-stored}
 use Rattle.rules.proofs.Kept.{live-kept, facts-kept}
-use Rattle.rules.proofs.Onward.{follow-live}
-use Rattle.rules.proofs.Carried.{reads-kept, answers-kept, known-after}
+use Rattle.rules.proofs.Walks.{follow-live}
+use Rattle.rules.proofs.Carried.{reads-kept, known-kept-all}
 use Rattle.rules.proofs.Rank.{safe-ex, good-named, ranked-by}
 
 rankAt : (ℕ → ℕ → ℕ) → Place → ℕ
@@ -74,22 +74,26 @@ module _ (𝓜 : Machine) (s : Tables) (h : Move) (F : Facts 𝓜 s) (K : Keeps 
           let alive′ = follow-place 𝓜 (next 𝓜 s h) F′ (At (h .o) (h .e)) o e q in
           omega (arith, z .0, R .own o e l (sym (live-kept 𝓜 s h F K o e l alive′ .1) ∙ z .1))
 
-pub invariant-kept : (𝓜 : Machine) (s : Tables) (h : Move) (I : Invariant 𝓜 s) → Keeps 𝓜 s h → Carries 𝓜 s h → Invariant 𝓜 (next 𝓜 s h)
-invariant-kept 𝓜 s h I K C =
+-- what a call makes of a sound state is sound, loops included,
+pub facts-made : (𝓜 : Machine) (s t : Tables) → Facts 𝓜 s → Reads 𝓜 s → Makes 𝓜 s t → Facts 𝓜 t × Reads 𝓜 t
+facts-made 𝓜 s t F reads (nothing) = (F, reads)
+facts-made 𝓜 s t F reads (moved h K on C) = (facts-kept 𝓜 s h F K, reads-kept 𝓜 s h F K on reads)
+
+-- and what it makes of a reached one keeps all that is true of those
+pub invariant-kept : (𝓜 : Machine) (s : Tables) (h : Move) (I : Invariant 𝓜 s) → Keeps 𝓜 s h → ReadsOn 𝓜 s h → Carries 𝓜 s h → Invariant 𝓜 (next 𝓜 s h)
+invariant-kept 𝓜 s h I K on C =
     let F = I .facts in
     record {
       facts = facts-kept 𝓜 s h F K;
-      reads = reads-kept 𝓜 s h F K C (I .reads);
-      known = known-after 𝓜 s h F K C (I .known);
-      answers = answers-kept 𝓜 s h F K C (I .answers);
+      reads = reads-kept 𝓜 s h F K on (I .reads);
+      known = known-kept-all 𝓜 s h F K C (I .known);
       rank = nextRank 𝓜 s h F K (I .rank);
       ranked = ranked-by 𝓜 s h F K (I .rank) (I .ranked) (nextRank 𝓜 s h F K (I .rank)) (agrees 𝓜 s h F K (I .rank)) (made 𝓜 s h F K (I .rank) (I .ranked));
     }
 
--- and so under whatever a call makes
 pub invariant-made : (𝓜 : Machine) (s t : Tables) → Invariant 𝓜 s → Makes 𝓜 s t → Invariant 𝓜 t
 invariant-made 𝓜 s t I (nothing) = I
-invariant-made 𝓜 s t I (moved h K C) = invariant-kept 𝓜 s h I K C
+invariant-made 𝓜 s t I (moved h K on C) = invariant-kept 𝓜 s h I K on (C (I .known))
 
 -- where the change makes no entry, the rank itself stays
 pub rank-kept : (𝓜 : Machine) (s : Tables) (h : Move) (F : Facts 𝓜 s) (K : Keeps 𝓜 s h) (r : ℕ → ℕ → ℕ) → Ranked 𝓜 s r

@@ -27,7 +27,7 @@ use Rattle.rules.proofs.Inside.{cell-inside}
 use Rattle.rules.proofs.Named.{the-entry-of}
 use Rattle.rules.proofs.Busy.{own-entry, naming-ref, not-busy}
 use Rattle.rules.proofs.Derived.{bit-one, live-fact}
-use Rattle.rules.specs.Move.{Carries, Makes, moved}
+use Rattle.rules.specs.Move.{ReadsOn, TrueValues, Carries, Makes, moved}
 use Rattle.rules.proofs.Moves.{cellMove, entryMove, put-cell-message, put-cell, put-entry-message, CellMoves, cell-keeps, ExMoves, ex-keeps, EntryMoves, entry-keeps}
 
 -- ---- refusals passed: none of the tests hit
@@ -155,26 +155,30 @@ module _ (𝓜 : Machine) (L : Laws 𝓜) (s : Tables) (F : Facts 𝓜 s) where
 
   -- ---- the rules' stores are moves
   pub makes-cell : (w c : ℕ) (k₀ k : Kind) → CellMoves 𝓜 L s w c k₀ k 0 (message s 0) (message s 0)
-      → Carries 𝓜 s (cellMove 𝓜 s w c k₀ k 0 (message s 0) (message s 0)) → Makes 𝓜 s (putCell 𝓜 s w c k)
-  makes-cell w c k₀ k M C =
+      → ReadsOn 𝓜 s (cellMove 𝓜 s w c k₀ k 0 (message s 0) (message s 0)) → (TrueValues 𝓜 s → Carries 𝓜 s (cellMove 𝓜 s w c k₀ k 0 (message s 0) (message s 0)))
+      → Makes 𝓜 s (putCell 𝓜 s w c k)
+  makes-cell w c k₀ k M on C =
       subst (Makes 𝓜 s) (put-cell 𝓜 L s w c k₀ k (M .w-in) (M .c-in))
-      (moved (cellMove 𝓜 s w c k₀ k 0 (message s 0) (message s 0)) (cell-keeps 𝓜 L s F w c k₀ k 0 (message s 0) (message s 0) M) C)
+      (moved (cellMove 𝓜 s w c k₀ k 0 (message s 0) (message s 0)) (cell-keeps 𝓜 L s F w c k₀ k 0 (message s 0) (message s 0) M) on C)
 
   pub makes-cell-message : (w c : ℕ) (k₀ k : Kind) (i : ℕ) (m₀ m : Message) → CellMoves 𝓜 L s w c k₀ k i m₀ m
-      → Carries 𝓜 s (cellMove 𝓜 s w c k₀ k i m₀ m) → Makes 𝓜 s (putMessage (putCell 𝓜 s w c k) i m)
-  makes-cell-message w c k₀ k i m₀ m M C =
+      → ReadsOn 𝓜 s (cellMove 𝓜 s w c k₀ k i m₀ m) → (TrueValues 𝓜 s → Carries 𝓜 s (cellMove 𝓜 s w c k₀ k i m₀ m))
+      → Makes 𝓜 s (putMessage (putCell 𝓜 s w c k) i m)
+  makes-cell-message w c k₀ k i m₀ m M on C =
       subst (Makes 𝓜 s) (put-cell-message 𝓜 L s w c k₀ k i m₀ m (M .w-in) (M .c-in))
-      (moved (cellMove 𝓜 s w c k₀ k i m₀ m) (cell-keeps 𝓜 L s F w c k₀ k i m₀ m M) C)
+      (moved (cellMove 𝓜 s w c k₀ k i m₀ m) (cell-keeps 𝓜 L s F w c k₀ k i m₀ m M) on C)
 
   pub makes-ex : (w c o e n₀ n : ℕ) (st₀ st : Status) (a₀ a : Bool) (i : ℕ) (m₀ m : Message) → ExMoves 𝓜 L s F w c o e n₀ n st₀ st a₀ a i m₀ m
-      → Carries 𝓜 s (cellMove 𝓜 s w c (Ex o e n₀ st₀ a₀) (Ex o e n st a) i m₀ m) → Makes 𝓜 s (putMessage (putCell 𝓜 s w c (Ex o e n st a)) i m)
-  makes-ex w c o e n₀ n st₀ st a₀ a i m₀ m M C =
+      → ReadsOn 𝓜 s (cellMove 𝓜 s w c (Ex o e n₀ st₀ a₀) (Ex o e n st a) i m₀ m) → (TrueValues 𝓜 s → Carries 𝓜 s (cellMove 𝓜 s w c (Ex o e n₀ st₀ a₀) (Ex o e n st a) i m₀ m))
+      → Makes 𝓜 s (putMessage (putCell 𝓜 s w c (Ex o e n st a)) i m)
+  makes-ex w c o e n₀ n st₀ st a₀ a i m₀ m M on C =
       let inside = cell-inside 𝓜 s w c (ap isFree (M .old-cell)) in
       subst (Makes 𝓜 s) (put-cell-message 𝓜 L s w c (Ex o e n₀ st₀ a₀) (Ex o e n st a) i m₀ m (inside .0) (inside .1))
-      (moved (cellMove 𝓜 s w c (Ex o e n₀ st₀ a₀) (Ex o e n st a) i m₀ m) (ex-keeps 𝓜 L s F w c o e n₀ n st₀ st a₀ a i m₀ m M) C)
+      (moved (cellMove 𝓜 s w c (Ex o e n₀ st₀ a₀) (Ex o e n st a) i m₀ m) (ex-keeps 𝓜 L s F w c o e n₀ n st₀ st a₀ a i m₀ m M) on C)
 
   pub makes-entry : (o e : ℕ) (x₀ x : Holding) (i : ℕ) (m₀ m : Message) → EntryMoves 𝓜 L s F o e x₀ x i m₀ m
-      → Carries 𝓜 s (entryMove 𝓜 s o e x₀ x i m₀ m) → Makes 𝓜 s (putMessage (putEntry 𝓜 s o e x) i m)
-  makes-entry o e x₀ x i m₀ m M C =
+      → ReadsOn 𝓜 s (entryMove 𝓜 s o e x₀ x i m₀ m) → (TrueValues 𝓜 s → Carries 𝓜 s (entryMove 𝓜 s o e x₀ x i m₀ m))
+      → Makes 𝓜 s (putMessage (putEntry 𝓜 s o e x) i m)
+  makes-entry o e x₀ x i m₀ m M on C =
       subst (Makes 𝓜 s) (put-entry-message 𝓜 L s o e x₀ x i m₀ m (M .o-in) (M .e-in))
-      (moved (entryMove 𝓜 s o e x₀ x i m₀ m) (entry-keeps 𝓜 L s F o e x₀ x i m₀ m M) C)
+      (moved (entryMove 𝓜 s o e x₀ x i m₀ m) (entry-keeps 𝓜 L s F o e x₀ x i m₀ m M) on C)

@@ -1,11 +1,11 @@
 -- Where the facts hold, the soundness test says yes. Assumes nothing.
-use Prim.Native.Nat.{ℕ, zero, suc, _*_, _<_, _≤_}
+use Prim.Native.Nat.{ℕ, _<_, _≤_}
 use native.Mathlib.Omega.{arith}
 use mathlib.Core.Path.{_≡_, refl, sym, ap, _∙_}
 use mathlib.Core.Bool.{Bool, true, false, _&&_, _||_, not, cond}
 use lib.Dec.{ltb, leb, eqb}
 use borrow.Author.Tests.{lt-ltb, le-leb, eq-eqb, ne-eqb}
-use Rattle.numbers.specs.Below.{bit, walkMeets}
+use Rattle.numbers.specs.Below.{bit}
 use Rattle.numbers.specs.Tests.{and-i, or-l, or-true}
 use Rattle.numbers.specs.BelowLaws.{all-of, count-once}
 use Rattle.tables.specs.declared.Kind.{Kind}
@@ -14,36 +14,23 @@ use Rattle.tables.specs.declared.Holding.{Holding}
 use Rattle.tables.specs.declared.Holding.the-variants.{Unused, Live}
 use Rattle.tables.specs.declared.Message.{Message}
 use Rattle.tables.specs.declared.Message.the-variants.{Empty, Reference, Release, Read, Answer, Ask, Supply}
-use Rattle.tables.specs.declared.Place.{Place}
-use Rattle.tables.specs.declared.Place.the-variants.{At}
 use Rattle.tables.specs.Machine.{Machine, Tables}
-use Rattle.tables.specs.Parts.{isFree, readingOf, isReading, isAsking, exNames, namedBy, isAt, isLive, entryNames, entryWeight}
+use Rattle.tables.specs.Parts.{isFree, readingOf, isReading, isAsking, exNames, namedBy, entryNames, entryWeight}
 use Rattle.tables.specs.Look.{cell, entry, endKind, booked, freeCells, message}
-use Rattle.rules.specs.Chains.{follow, ahead}
-use Rattle.rules.specs.Sound.{readsFor, asksFor, kindInRange, messageInRange, cellInRange, entryInRange, exesNaming, cellNames, entriesNaming, varValOrSafe, entryNamesCell, readsOf, asksOf, cellAwaited, reached, messageHasIts, messageHolds, held, entryWeighs, roomForBooked, point1, point2, point3, point4, point5, point6, sound}
+use Rattle.rules.specs.Sound.{readsFor, asksFor, kindInRange, messageInRange, cellInRange, entryInRange, exesNaming, cellNames, entriesNaming, varValOrSafe, entryNamesCell, readsOf, asksOf, cellAwaited, messageHasIts, messageHolds, held, entryWeighs, roomForBooked, point1, point2, point3, point4, point5, point6, sound}
 use Rattle.rules.specs.Machines.{Laws}
-use Rattle.rules.specs.Facts.{CellFact, EntryFact, MessageFact, Facts, ReadsWithin}
+use Rattle.rules.specs.Facts.{CellFact, EntryFact, MessageFact, Facts, Reads}
 use Rattle.rules.proofs.Inside.{cell-inside, each-cell-of, each-entry-of, each-message-of}
 use Rattle.rules.proofs.Named.{eq-both, on-ex, ex-not-free}
-use Rattle.rules.proofs.Derived.{cell-used, live-used, held-le, held-live, ex-held, ex-live, names-live, sent-held, reading-cell, asking-cell, named-place, ahead-place}
-
--- a place that is ahead is met by the walk
-pub ahead-walk : (𝓜 : Machine) (s : Tables) (o e k n : ℕ) (p : Place) → k < n → ahead 𝓜 s k p ≡ At o e → walkMeets (isAt o e) (follow 𝓜 s) n p ≡ true
-unfolding walkMeets ahead
-ahead-walk 𝓜 s o e k zero p l h = absurd (omega arith)
-ahead-walk 𝓜 s o e zero (suc n) p l h = rw (h, eq-both o e)
-ahead-walk 𝓜 s o e (suc k) (suc n) p l h = go (isAt o e p) (ahead-walk 𝓜 s o e k n (follow 𝓜 s p) (omega arith) h)
-  where
-    go : (b : Bool) → walkMeets (isAt o e) (follow 𝓜 s) n (follow 𝓜 s p) ≡ true → cond b true (walkMeets (isAt o e) (follow 𝓜 s) n (follow 𝓜 s p)) ≡ true
-    go true t = refl
-    go false t = t
+use Rattle.rules.proofs.Reach.{reached-of}
+use Rattle.rules.proofs.Derived.{cell-used, live-used, held-le, held-live, ex-held, ex-live, names-live, sent-held, reading-cell, asking-cell, read-live}
 
 -- a test that a count demands only where a mark is set
 awaits : (b : Bool) (n : ℕ) → n ≡ bit b → (not b || eqb n 1) ≡ true
 awaits true n h = eq-eqb n 1 h
 awaits false n h = refl
 
-module _ (𝓜 : Machine) (L : Laws 𝓜) (s : Tables) (F : Facts 𝓜 s) (R : ReadsWithin 𝓜 s) where
+module _ (𝓜 : Machine) (L : Laws 𝓜) (s : Tables) (F : Facts 𝓜 s) (R : Reads 𝓜 s) where
   worker-in : (w : ℕ) → w < s .p → ltb w (s .p) ≡ true
   worker-in w h = lt-ltb w (s .p) h
 
@@ -100,11 +87,6 @@ module _ (𝓜 : Machine) (L : Laws 𝓜) (s : Tables) (F : Facts 𝓜 s) (R : R
   ask-cell k a c m x h = asking-cell 𝓜 s F k a c (ap (asksFor a c) x ∙ h)
 
   -- the entry of a Read, and of an Ask, is live
-  read-live : (k r c o e : ℕ) → message s k ≡ Read r c o e → isLive (entry 𝓜 s o e) ≡ true
-  read-live k r c o e x =
-      let q = R k in
-      ahead-place 𝓜 s F (q .0) (namedBy (cell 𝓜 s r c)) (named-place 𝓜 s F r c) o e (rw x at (q .2))
-
   ask-names : (k a c o e : ℕ) → message s k ≡ Ask a c o e → exNames o e (cell 𝓜 s a c) ≡ true
   ask-names k a c o e x = rw x at (F .messages k)
 
@@ -119,7 +101,7 @@ module _ (𝓜 : Machine) (L : Laws 𝓜) (s : Tables) (F : Facts 𝓜 s) (R : R
       let f : MessageFact 𝓜 s (Release o e n) = rw x at (F .messages k) in
       held-in-range o e n (release-held k o e n x) f
   message-in-range k (Read r c o e) x =
-      let u = live-used 𝓜 s F o e (read-live k r c o e x) in
+      let u = live-used 𝓜 s F o e (read-live 𝓜 s F R k r c o e x) in
       let p = place-in-range r c (ex-not-free (λ o e n st a. readingOf st) (cell 𝓜 s r c) (read-cell k r c (Read r c o e) x (eq-both r c))) in
       and-i (and-i p (worker-in o (u .0))) (lt-ltb e (𝓜 .entries) (u .1))
   message-in-range k (Answer r c n) x =
@@ -173,7 +155,6 @@ module _ (𝓜 : Machine) (L : Laws 𝓜) (s : Tables) (F : Facts 𝓜 s) (R : R
       (awaits a (asksOf 𝓜 s w c) (F .asks-one w c ∙ ap (λ (k : Kind). bit (isAsking k)) x))
 
   has-its : (k : ℕ) (m : Message) → message s k ≡ m → messageHasIts 𝓜 s m ≡ true
-  unfolding reached
   has-its k Empty x = refl
   has-its k (Reference to o e n) x =
       let f : MessageFact 𝓜 s (Reference to o e n) = rw x at (F .messages k) in
@@ -183,8 +164,9 @@ module _ (𝓜 : Machine) (L : Laws 𝓜) (s : Tables) (F : Facts 𝓜 s) (R : R
       and-i (held-live 𝓜 s (F .weighed) o e (omega (arith, release-held k o e n x, f))) (le-leb 1 n f)
   has-its k (Read r c o e) x =
       let q = R k in
-      and-i (and-i (read-cell k r c (Read r c o e) x (eq-both r c)) (read-live k r c o e x))
-      (ahead-walk 𝓜 s o e (q .0) (𝓜 .workers * 𝓜 .entries) (namedBy (cell 𝓜 s r c)) (q .1) (rw x at (q .2)))
+      let live = read-live 𝓜 s F R k r c o e x in
+      and-i (and-i (read-cell k r c (Read r c o e) x (eq-both r c)) live)
+      (reached-of 𝓜 s (namedBy (cell 𝓜 s r c)) o e live (q .0) (rw x at (q .1)))
   has-its k (Answer r c n) x = read-cell k r c (Answer r c n) x (eq-both r c)
   has-its k (Ask a c o e) x =
       let t = ask-names k a c o e x in

@@ -34,16 +34,18 @@ use Rattle.rules.specs.Calls.{start, bound, B}
 use Rattle.rules.specs.Deliver.{deliverHome, deliverAway, deliverRelease, deliverRead, deliverAnswer, deliverSupply, deliverAsk, deliverMessage, deliver}
 use Rattle.rules.specs.Step.{isStart, step, run, delivers, drained, successes, Reached, begun, after}
 use Rattle.rules.specs.Machines.{Laws}
-use Rattle.rules.specs.Facts.{EntryFact, ReadAhead, KnownFact}
+use Rattle.rules.specs.Facts.{EntryFact, Facts, ReadAhead, Reads, KnownFact}
 use Rattle.rules.proofs.Derived.{LivePlace, live-place, names-live, named-place, ahead-place}
 use Rattle.rules.proofs.Named.{both-eq}
+use Rattle.rules.proofs.FromTest.{sound-facts, sound-reads}
 use Rattle.rules.proofs.ToTest.{facts-sound}
 use Rattle.rules.specs.Move.{Makes, nothing, Ranked, Invariant}
-use Rattle.rules.specs.Statements.{noStart, FreedAtNothing, NoLoops, AtMostB, holdsReady, AtRest, slotsTaken, TakesReady, RestIsReached, readOfUnbound, KnownWith, Brought, Demand3}
-use Rattle.rules.proofs.Count.{standing-live, reads-within, comes-to-end}
-use Rattle.rules.proofs.Measure.{measure, measure-bound, StatusOn, KindOn, ExOn, Arrived}
-use Rattle.rules.proofs.Stays.{invariant-made}
-use Rattle.rules.proofs.Context.{message-live, own-context, context-made}
+use Rattle.rules.specs.Statements.{noStart, CallsKeepSound, FreedAtNothing, NoLoops, AtMostB, holdsReady, AtRest, slotsTaken, TakesReady, RestIsReached, readOfUnbound, KnownWith, Brought, Demand3}
+use Rattle.rules.proofs.Count.{standing-live, comes-to-end}
+use Rattle.rules.proofs.Measure.{measure, measure-bound, StatusOn, KindOn, ExOn, Arrived, arrived}
+use Rattle.rules.proofs.Stays.{facts-made, invariant-made}
+use Rattle.rules.proofs.Ends.{own-context}
+use Rattle.rules.proofs.Context.{message-live, context-made}
 use Rattle.rules.proofs.Steps.{after-checked}
 use Rattle.rules.proofs.Local.{new-makes, set-makes, bind-makes, transfer-makes, drop-makes}
 use Rattle.rules.proofs.Send.{export-makes, indirect-makes, read-makes, ask-makes}
@@ -72,31 +74,55 @@ module _ (𝓜 : Machine) (L : Laws 𝓜) where
   bound-makes s =
       after-checked (Makes 𝓜 s) s (boundRefusals 𝓜 s) (record { outcome = Done (B 𝓜 s); after = s }) nothing (λ p. nothing)
 
-  step-makes : (s : Tables) → Invariant 𝓜 s → (q : Call) → isStart q ≡ false → Makes 𝓜 s (step 𝓜 s q .after)
+  step-makes : (s : Tables) → Facts 𝓜 s → Reads 𝓜 s → (q : Call) → isStart q ≡ false → Makes 𝓜 s (step 𝓜 s q .after)
   unfolding step
-  step-makes s I (Start p) n = absurd-bool refl n
-  step-makes s I (New w) n = new-makes 𝓜 L s (I .facts) w
-  step-makes s I (Set w c v) n = set-makes 𝓜 L s (I .facts) w c v
-  step-makes s I (Bind w c x) n = bind-makes 𝓜 L s (I .facts) w c x
-  step-makes s I (Export w c to) n = export-makes 𝓜 L s (I .facts) w c to
-  step-makes s I (Indirect w c to) n = indirect-makes 𝓜 L s (I .facts) w c to
-  step-makes s I (Transfer w c to) n = transfer-makes 𝓜 L s (I .facts) w c to
-  step-makes s I (Drop w c) n = drop-makes 𝓜 L s (I .facts) w c
-  step-makes s I (ReadCell w c) n = read-makes 𝓜 L s (I .facts) w c
-  step-makes s I (AskWeight w c) n = ask-makes 𝓜 L s (I .facts) w c
-  step-makes s I (Deliver k) n = deliver-makes 𝓜 L s I k
-  step-makes s I Bound n = bound-makes s
+  step-makes s F reads (Start p) n = absurd-bool refl n
+  step-makes s F reads (New w) n = new-makes 𝓜 L s F w
+  step-makes s F reads (Set w c v) n = set-makes 𝓜 L s F w c v
+  step-makes s F reads (Bind w c x) n = bind-makes 𝓜 L s F w c x
+  step-makes s F reads (Export w c to) n = export-makes 𝓜 L s F w c to
+  step-makes s F reads (Indirect w c to) n = indirect-makes 𝓜 L s F w c to
+  step-makes s F reads (Transfer w c to) n = transfer-makes 𝓜 L s F w c to
+  step-makes s F reads (Drop w c) n = drop-makes 𝓜 L s F w c
+  step-makes s F reads (ReadCell w c) n = read-makes 𝓜 L s F w c
+  step-makes s F reads (AskWeight w c) n = ask-makes 𝓜 L s F w c
+  step-makes s F reads (Deliver k) n = deliver-makes 𝓜 L s F reads k
+  step-makes s F reads Bound n = bound-makes s
 
   pub reached-invariant : (s : Tables) → Reached 𝓜 s → Invariant 𝓜 s
-  reached-invariant s (begun p ok) = start-invariant 𝓜 p ok
+  reached-invariant s (begun p ok) = start-invariant 𝓜 p
   reached-invariant s (after {s = t} r q n) =
       let I = reached-invariant t r in
-      invariant-made 𝓜 t (step 𝓜 t q .after) I (step-makes t I q n)
+      invariant-made 𝓜 t (step 𝓜 t q .after) I (step-makes t (I .facts) (I .reads) q n)
 
-  -- ---- sound, weights, no loops
+  -- ---- sound: every reached state, and what a call makes of any sound one
   is-sound : (s : Tables) → Invariant 𝓜 s → sound 𝓜 s ≡ true
-  is-sound s I = facts-sound 𝓜 L s (I .facts) (reads-within 𝓜 L s (I .facts) (I .rank) (I .ranked) (I .reads))
+  is-sound s I = facts-sound 𝓜 L s (I .facts) (I .reads)
 
+  calls-keep : (s : Tables) → Facts 𝓜 s → Reads 𝓜 s → (q : Call) → isStart q ≡ false → sound 𝓜 (step 𝓜 s q .after) ≡ true
+  calls-keep s F reads q n =
+      let t = facts-made 𝓜 s (step 𝓜 s q .after) F reads (step-makes s F reads q n) in
+      facts-sound 𝓜 L (step 𝓜 s q .after) (t .0) (t .1)
+
+  pub calls-keep-sound : CallsKeepSound 𝓜
+  unfolding step
+  calls-keep-sound s z h q = go q (calls-keep s (sound-facts 𝓜 L s z h) (sound-reads 𝓜 L s z h))
+    where
+      go : (q : Call) → ((q : Call) → isStart q ≡ false → sound 𝓜 (step 𝓜 s q .after) ≡ true) → sound 𝓜 (step 𝓜 s q .after) ≡ true
+      go (Start p) other = is-sound (start 𝓜 p .after) (start-invariant 𝓜 p)
+      go (New w) other = other (New w) refl
+      go (Set w c v) other = other (Set w c v) refl
+      go (Bind w c x) other = other (Bind w c x) refl
+      go (Export w c to) other = other (Export w c to) refl
+      go (Indirect w c to) other = other (Indirect w c to) refl
+      go (Transfer w c to) other = other (Transfer w c to) refl
+      go (Drop w c) other = other (Drop w c) refl
+      go (ReadCell w c) other = other (ReadCell w c) refl
+      go (AskWeight w c) other = other (AskWeight w c) refl
+      go (Deliver k) other = other (Deliver k) refl
+      go Bound other = other Bound refl
+
+  -- ---- weights, no loops
   freed : FreedAtNothing 𝓜
   freed s r w e = go (entry 𝓜 s w e) (I .facts .entries w e) (I .facts .weighed w e)
     where
@@ -170,7 +196,7 @@ module _ (𝓜 : Machine) (L : Laws 𝓜) where
           let rest : successes 𝓜 (deliver 𝓜 s k .after) ks ≤ measure 𝓜 s r = subst (λ (t : Tables). successes 𝓜 t ks ≤ measure 𝓜 s r) (sym c) (rec s I R) in
           omega (arith, ap bit b)
       go (arrives a b c) rec =
-          let x = message-arrives 𝓜 L s I r R k (message s k) refl a b in
+          let x = arrived 𝓜 L s I r R (deliverMessage 𝓜 s k (message s k) .after) (message-arrives 𝓜 L s (I .facts) (I .reads) k (message s k) refl a b) in
           let next = deliverMessage 𝓜 s k (message s k) .after in
           let same : deliver 𝓜 s k .after ≡ next = ap (λ (y : Result). y .after) c in
           let rest : successes 𝓜 (deliver 𝓜 s k .after) ks ≤ measure 𝓜 next r = subst (λ (t : Tables). successes 𝓜 t ks ≤ measure 𝓜 next r) (sym same) (rec next (x .invariant) (x .ranked)) in
@@ -194,7 +220,7 @@ module _ (𝓜 : Machine) (L : Laws 𝓜) where
       go : AtRest 𝓜 s ⊎ (holdsReady 𝓜 s (slot 0) ≡ true) → Delivery s (slot 0) → (i : ℕ) × (i ≤ 0) × AtRest 𝓜 (drained 𝓜 s (slotsTaken 𝓜 slot i))
       go (inl rest) d = (0, omega arith, rest)
       go (inr is-ready) (refused a b c) = absurd-bool is-ready a
-      go (inr is-ready) (arrives a b c) = absurd (omega (arith, message-arrives 𝓜 L s I r R (slot 0) (message s (slot 0)) refl a b .lower))
+      go (inr is-ready) (arrives a b c) = absurd (omega (arith, arrived 𝓜 L s I r R (deliverMessage 𝓜 s (slot 0) (message s (slot 0)) .after) (message-arrives 𝓜 L s (I .facts) (I .reads) (slot 0) (message s (slot 0)) refl a b) .lower))
   rest-within (suc n) s I r R few slot takes =
       go (takes 0) (delivery s I (slot 0)) (λ t J Q less sl tk. rest-within n t J r Q less sl tk)
     where
@@ -207,7 +233,7 @@ module _ (𝓜 : Machine) (L : Laws 𝓜) where
       go (inl rest) d rec = (0, omega arith, rest)
       go (inr is-ready) (refused a b c) rec = absurd-bool is-ready a
       go (inr is-ready) (arrives a b c) rec =
-          let x = message-arrives 𝓜 L s I r R (slot 0) (message s (slot 0)) refl a b in
+          let x = arrived 𝓜 L s I r R (deliverMessage 𝓜 s (slot 0) (message s (slot 0)) .after) (message-arrives 𝓜 L s (I .facts) (I .reads) (slot 0) (message s (slot 0)) refl a b) in
           let same : deliver 𝓜 s (slot 0) .after ≡ deliverMessage 𝓜 s (slot 0) (message s (slot 0)) .after = ap (λ (y : Result). y .after) c in
           let t = deliver 𝓜 s (slot 0) .after in
           let y = rec t (subst (Invariant 𝓜) (sym same) (x .invariant)) (subst (λ (z : Tables). Ranked 𝓜 z r) (sym same) (x .ranked)) (omega (arith, x .lower, ap (λ (z : Tables). measure 𝓜 z r) same)) later (λ i. takes (suc i)) in
@@ -255,7 +281,7 @@ module _ (𝓜 : Machine) (L : Laws 𝓜) where
       by Idle i on = absurd on
       by Reading i on = reads-on (y .weight) (y .asking) i there
       by (Known u) i on =
-          let true-end : EndsIn 𝓜 t (At o e) u = subst (KnownFact 𝓜 t) i (x .invariant .known w c) in
+          let true-end : EndsIn 𝓜 t (At o e) u = subst (KnownFact 𝓜 t) i (x .invariant .known .exes w c) in
           let same = ends-one 𝓜 t (At o e) u v true-end there in
           is-known (y .weight) (y .asking) (i ∙ ap (λ (z : ℕ). Ex o e (y .weight) (Known z) (y .asking)) same)
   told-next s t r w c o e v x (is-known n a q) = by (y .status) (y .is) (y .on)
@@ -278,7 +304,7 @@ module _ (𝓜 : Machine) (L : Laws 𝓜) where
           → Told (drained 𝓜 (deliver 𝓜 s k .after) ks) w c o e v
       go (refused a b q) rec = subst (λ (y : Tables). Told (drained 𝓜 y ks) w c o e v) (sym q) (rec s I t)
       go (arrives a b q) rec =
-          let x = message-arrives 𝓜 L s I (I .rank) (I .ranked) k (message s k) refl a b in
+          let x = arrived 𝓜 L s I (I .rank) (I .ranked) (deliverMessage 𝓜 s k (message s k) .after) (message-arrives 𝓜 L s (I .facts) (I .reads) k (message s k) refl a b) in
           let next = deliverMessage 𝓜 s k (message s k) .after in
           subst (λ (y : Tables). Told (drained 𝓜 y ks) w c o e v) (sym (ap (λ (y : Result). y .after) q))
           (rec next (x .invariant) (told-next s next (I .rank) w c o e v x t))
@@ -333,5 +359,5 @@ module _ (𝓜 : Machine) (L : Laws 𝓜) where
         refers-to-live =
             λ s r o e. let I = reached-invariant s r in (λ w c. names-live 𝓜 s (I .facts) w c o e, λ k. message-live 𝓜 s (I .facts) (I .reads) k o e);
         reference-keeps-context =
-            λ s r q n. let I = reached-invariant s r in context-made 𝓜 s (step 𝓜 s q .after) (I .facts) (step-makes s I q n);
+            λ s r q n. let I = reached-invariant s r in context-made 𝓜 s (step 𝓜 s q .after) (I .facts) (step-makes s (I .facts) (I .reads) q n);
       }

@@ -1,6 +1,6 @@
 -- The facts of a sound state: what holds of each cell, entry and message, of any two, and of the sums. Everything else that document 01's
 -- six points say follows: ranges, since beyond its table everything is free; live entries, since a free one has weight 0. Assumes nothing.
-use Prim.Native.Nat.{ℕ, _*_, _<_, _≤_}
+use Prim.Native.Nat.{ℕ, _<_, _≤_}
 use mathlib.Core.Path.{_≡_}
 use mathlib.Core.Bool.{true, false}
 use mathlib.Core.Logic.{_≢_}
@@ -72,12 +72,9 @@ module _ (𝓜 : Machine) (s : Tables) where
     pub weighed : (o e : ℕ) → entryWeight (entry 𝓜 s o e) ≡ held 𝓜 s o e
     pub room : (w : ℕ) → booked s w ≤ freeCells 𝓜 s w
 
-  -- every Read's entry is reached, and in fewer steps than there are entries
+  -- every Read's entry is reached
   abbrev pub Reads : Type 0
   Reads = (k : ℕ) → (n : ℕ) × ReadAhead n (message s k)
-
-  abbrev pub ReadsWithin : Type 0
-  ReadsWithin = (k : ℕ) → (n : ℕ) × (n < 𝓜 .workers * 𝓜 .entries) × ReadAhead n (message s k)
 
   -- an EX that is known, and an Answer, holds the value at the end of its chain
   abbrev pub StatusFact : Place → Status → Type 0

@@ -90,17 +90,24 @@ pub record Keeps (𝓜 : Machine) (s : Tables) (h : Move) : Type 0 where
   pub room : (v : ℕ)
       → booked s v + bit (goesTo v (h .m)) + cond (eqb (h .w) v) (bit (isFree (h .k₀))) 0 ≤ freeCells 𝓜 s v + bit (goesTo v (h .m₀)) + cond (eqb (h .w) v) (bit (isFree (h .k))) 0
 
--- What a change must bring besides: the entry of a new Read is ahead of its EX's, and a new Answer, or an EX newly known, holds the value at
--- the end of its chain.
+-- And the entry of a new Read is ahead of its EX's.
+abbrev pub ReadsOn : Machine → Tables → Move → Type 0
+ReadsOn 𝓜 s h = (h .m ≡ h .m₀) ⊎ ((n : ℕ) × ReadAhead 𝓜 (next 𝓜 s h) n (h .m))
+
+-- What is true besides of reached states: an EX that is known, and an Answer, holds the value at the end of its chain.
+pub record TrueValues (𝓜 : Machine) (s : Tables) : Type 0 where
+  pub exes : (w c : ℕ) → KnownFact 𝓜 s (cell 𝓜 s w c)
+  pub answers : (k : ℕ) → AnswerFact 𝓜 s (message s k)
+
+-- A move that keeps this: a new Answer, or an EX newly known, holds that value.
 pub record Carries (𝓜 : Machine) (s : Tables) (h : Move) : Type 0 where
-  pub read-ok : (h .m ≡ h .m₀) ⊎ ((n : ℕ) × ReadAhead 𝓜 (next 𝓜 s h) n (h .m))
   pub answer-ok : (h .m ≡ h .m₀) ⊎ AnswerFact 𝓜 (next 𝓜 s h) (h .m)
   pub known-ok : (KnownFact 𝓜 s (h .k₀) → KnownFact 𝓜 s (h .k)) ⊎ KnownFact 𝓜 (next 𝓜 s h) (h .k)
 
--- What a call makes of the tables: nothing, or one such move.
+-- What a call makes of the tables of a sound state: nothing, or one such move.
 pub data Makes (𝓜 : Machine) (s : Tables) : Tables → Type 0 where
   nothing : Makes 𝓜 s s
-  moved : (h : Move) → Keeps 𝓜 s h → Carries 𝓜 s h → Makes 𝓜 s (next 𝓜 s h)
+  moved : (h : Move) → Keeps 𝓜 s h → ReadsOn 𝓜 s h → (TrueValues 𝓜 s → Carries 𝓜 s h) → Makes 𝓜 s (next 𝓜 s h)
 
 -- A rank of the entries by which no chain goes round: at least the worker's number, that number for an untainted entry, and falling with
 -- each step.
@@ -113,7 +120,6 @@ pub record Ranked (𝓜 : Machine) (s : Tables) (r : ℕ → ℕ → ℕ) : Type
 pub record Invariant (𝓜 : Machine) (s : Tables) : Type 0 where
   pub facts : Facts 𝓜 s
   pub reads : Reads 𝓜 s
-  pub known : (w c : ℕ) → KnownFact 𝓜 s (cell 𝓜 s w c)
-  pub answers : (k : ℕ) → AnswerFact 𝓜 s (message s k)
+  pub known : TrueValues 𝓜 s
   pub rank : ℕ → ℕ → ℕ
   pub ranked : Ranked 𝓜 s rank

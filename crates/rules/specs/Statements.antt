@@ -24,6 +24,7 @@ use Rattle.rules.specs.Sound.{held, sound}
 use Rattle.rules.specs.Chains.{entryEnd, ahead, EndsIn, LeadsTo}
 use Rattle.rules.specs.Refusals.{ready}
 use Rattle.rules.specs.Calls.{start, B}
+use Rattle.rules.specs.Machines.{Sized}
 use Rattle.rules.specs.Step.{isStart, step, run, delivers, drained, successes, Reached}
 
 -- a list of calls with no start in it
@@ -124,6 +125,10 @@ module _ (𝓜 : Machine) where
   Brought =
       (s : Tables) → Reached 𝓜 s → (w c o e n v : ℕ) (a : Bool) → cell 𝓜 s w c ≡ Ex o e n Reading a → EndsIn 𝓜 s (At o e) v → (ks : List ℕ)
       → AtRest (drained 𝓜 s ks) → KnownWith (drained 𝓜 s ks) w c o e v
+
+  -- ---- Every sound state, reached or made by hand, loops included: whatever the call and its numbers, the next state is sound.
+  abbrev pub CallsKeepSound : Type 0
+  CallsKeepSound = (s : Tables) → Sized 𝓜 s → sound 𝓜 s ≡ true → (q : Call) → sound 𝓜 (step 𝓜 s q .after) ≡ true
 
   -- ---- A reference keeps its context
 

@@ -1,0 +1,85 @@
+-- The end of a live entry's cell: a VAR or a VAL, or an EX that leads on. Assumes nothing.
+use Prim.Native.Nat.{ℕ}
+use mathlib.Core.Path.{_≡_, refl, sym, ap, subst, _∙_}
+use mathlib.Core.Bool.{true, false, _||_}
+use borrow.Author.Tests.{eq-eqb}
+use Rattle.numbers.specs.Tests.{absurd-bool}
+use Rattle.tables.specs.declared.Kind.{Kind}
+use Rattle.tables.specs.declared.Kind.the-variants.{Free, Var, Val, Ref, Ex}
+use Rattle.tables.specs.declared.Holding.{Holding}
+use Rattle.tables.specs.declared.Holding.the-variants.{Unused, Live}
+use Rattle.tables.specs.declared.Place.the-variants.{At}
+use Rattle.tables.specs.Machine.{Machine, Tables}
+use Rattle.tables.specs.Parts.{isFree, isVar, isVal, isEx, namedBy, isLive, entryNames, cellOf}
+use Rattle.tables.specs.Look.{cell, entry, endKind}
+use Rattle.rules.specs.Chains.{entryEnd, follow}
+use Rattle.rules.specs.Facts.{CellFact, Facts}
+use Rattle.rules.proofs.Named.{the-ex, the-live}
+use Rattle.rules.proofs.Walks.{follow-live}
+use Rattle.rules.proofs.Derived.{live-fact}
+use Rattle.rules.proofs.Kept.{end-self, end-ref}
+
+pub data EndIs (k : Kind) : Type 0 where
+  plain : (isVar k || isVal k) ≡ true → EndIs k
+  leads : (a b : ℕ) → namedBy k ≡ At a b → EndIs k
+
+module _ (𝓜 : Machine) (s : Tables) (F : Facts 𝓜 s) where
+  pub end-is : (o d : ℕ) → isFree (cell 𝓜 s o d) ≡ false → EndIs (endKind 𝓜 s o d)
+  end-is o d nf = go (cell 𝓜 s o d) refl nf
+    where
+      ex-end : (k : Kind) → isEx k ≡ true → EndIs k
+      ex-end k t =
+          let x = the-ex k t in
+          leads (x .owner) (x .entry) (ap namedBy (x .is))
+
+      go : (k : Kind) → cell 𝓜 s o d ≡ k → isFree k ≡ false → EndIs (endKind 𝓜 s o d)
+      go Free q t = absurd-bool refl t
+      go Var q t = plain (ap (λ (k : Kind). isVar k || isVal k) (end-self 𝓜 s o d Var q refl))
+      go (Val n) q t = plain (ap (λ (k : Kind). isVar k || isVal k) (end-self 𝓜 s o d (Val n) q refl))
+      go (Ref y) q t =
+          let f : CellFact 𝓜 s o (Ref y) = subst (CellFact 𝓜 s o) q (F .cells o d) in
+          ex-end (endKind 𝓜 s o d) (ap isEx (end-ref 𝓜 s o d y q) ∙ f .1)
+      go (Ex a b n st w) q t = ex-end (endKind 𝓜 s o d) (ap isEx (end-self 𝓜 s o d (Ex a b n st w) q refl))
+
+  pub entry-end-is : (o e : ℕ) → isLive (entry 𝓜 s o e) ≡ true → EndIs (entryEnd 𝓜 s o (entry 𝓜 s o e))
+  entry-end-is o e t =
+      let l = the-live (entry 𝓜 s o e) t in
+      subst EndIs (sym (ap (entryEnd 𝓜 s o) (l .is))) (end-is o (l .cell) (live-fact 𝓜 s F o e l .2))
+
+  -- a step from a live entry whose end names another
+  pub entry-leads : (o e a b : ℕ) → isLive (entry 𝓜 s o e) ≡ true → namedBy (entryEnd 𝓜 s o (entry 𝓜 s o e)) ≡ At a b → follow 𝓜 s (At o e) ≡ At a b
+  entry-leads o e a b t q =
+      let l = the-live (entry 𝓜 s o e) t in
+      follow-live 𝓜 s o e (l .cell) (l .weight) (l .tainted) (l .is)
+      ∙ sym (ap (λ x. namedBy (entryEnd 𝓜 s o x)) (l .is))
+      ∙ q
+
+  -- ---- a live entry whose cell has a VAR or a VAL as its end names that VAR or VAL itself
+  own-end : (o d : ℕ) → (isVar (endKind 𝓜 s o d) || isVal (endKind 𝓜 s o d)) ≡ true → endKind 𝓜 s o d ≡ cell 𝓜 s o d
+  own-end o d t = go (cell 𝓜 s o d) refl
+    where
+      go : (k : Kind) → cell 𝓜 s o d ≡ k → endKind 𝓜 s o d ≡ cell 𝓜 s o d
+      go Free q = end-self 𝓜 s o d Free q refl ∙ sym q
+      go Var q = end-self 𝓜 s o d Var q refl ∙ sym q
+      go (Val n) q = end-self 𝓜 s o d (Val n) q refl ∙ sym q
+      go (Ref y) q =
+          let f : CellFact 𝓜 s o (Ref y) = subst (CellFact 𝓜 s o) q (F .cells o d) in
+          absurd-bool t (plain-not-ex (endKind 𝓜 s o d) (ap isEx (end-ref 𝓜 s o d y q) ∙ f .1))
+        where
+          plain-not-ex : (k : Kind) → isEx k ≡ true → (isVar k || isVal k) ≡ false
+          plain-not-ex Free u = absurd-bool u refl
+          plain-not-ex Var u = absurd-bool u refl
+          plain-not-ex (Val n) u = absurd-bool u refl
+          plain-not-ex (Ref z) u = absurd-bool u refl
+          plain-not-ex (Ex a b n st w) u = refl
+      go (Ex a b n st w) q = end-self 𝓜 s o d (Ex a b n st w) q refl ∙ sym q
+
+  pub own-context : (a b : ℕ) → isLive (entry 𝓜 s a b) ≡ true
+      → (isVar (entryEnd 𝓜 s a (entry 𝓜 s a b)) || isVal (entryEnd 𝓜 s a (entry 𝓜 s a b))) ≡ true
+      → (entryNames (cellOf (entry 𝓜 s a b)) (entry 𝓜 s a b) ≡ true) × ((isVar (cell 𝓜 s a (cellOf (entry 𝓜 s a b))) || isVal (cell 𝓜 s a (cellOf (entry 𝓜 s a b)))) ≡ true)
+  own-context a b live = go (entry 𝓜 s a b) live
+    where
+      go : (x : Holding) → isLive x ≡ true → (isVar (entryEnd 𝓜 s a x) || isVal (entryEnd 𝓜 s a x)) ≡ true
+          → (entryNames (cellOf x) x ≡ true) × ((isVar (cell 𝓜 s a (cellOf x)) || isVal (cell 𝓜 s a (cellOf x))) ≡ true)
+      go Unused l t = absurd-bool l refl
+      go (Live d n u) l t = (eq-eqb d d refl, sym (ap (λ (k : Kind). isVar k || isVal k) (own-end a d t)) ∙ t)
