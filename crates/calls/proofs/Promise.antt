@@ -20,7 +20,7 @@ use Rattle.tables.specs.declared.Place.the-variants.{At}
 use Rattle.tables.specs.Machine.{Tables, eight, tables, state}
 use Rattle.tables.specs.Parts.{exNames, isLive, entryWeight}
 use Rattle.tables.specs.Look.{cell, entry, message}
-use Rattle.rules.specs.Answers.{reply, succeeds, valueOf, checked}
+use Rattle.rules.specs.Answers.{made, reply, succeeds, valueOf, checked}
 use Rattle.rules.specs.Sound.{held, sound}
 use Rattle.rules.specs.Chains.{EndsIn}
 use Rattle.rules.specs.Calls.{bound, B}
@@ -134,7 +134,7 @@ reached-rules s (started {s = t} p r m ok) =
 reached-rules s (stepped {s = t} g q n r m) =
     subst (Reached eight) (sym (next-is t q r m)) (after (reached-rules t g) q n)
 
-delivered-is : (s : State) (k : ℕ) (r : Reply) → Replies s (Deliver k) r → r ≡ reply (deliver eight (tables s) k)
+delivered-is : (s : State) (k : ℕ) (r : Reply) → Replies s (Deliver k) r → r ≡ reply (made eight (tables s) (deliver eight (tables s) k))
 unfolding step
 delivered-is s k r m = reply-is s (Deliver k) r m
 
@@ -144,7 +144,7 @@ unfolding successes drained
 delivered-rules s ks n t (none) = (refl, refl)
 delivered-rules s ks n t (then {ks = rest} {n = m} k r c d) =
     let is = delivered-is s k r c in
-    let next : tables (r .state) ≡ deliver eight (tables s) k .after = ap (λ (x : Reply). tables (x .state)) is in
+    let next : tables (r .state) ≡ made eight (tables s) (deliver eight (tables s) k) .after = ap (λ (x : Reply). tables (x .state)) is in
     let won : succeeds (r .outcome) ≡ succeeds (deliver eight (tables s) k .outcome) = ap (λ (x : Reply). succeeds (x .outcome)) is in
     let ih = delivered-rules (r .state) rest m t d in (
       ap₂ (λ (b : Bool) (i : ℕ). bit b + i) won (ih .0 ∙ ap (λ (x : Tables). successes eight x rest) next),

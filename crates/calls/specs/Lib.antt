@@ -1,3 +1,2 @@
--- The verdict that the calls carry along, and the lines that it is carried along.
-pub mod Lines
+-- The verdict that the calls carry along the lines of the table of refusal numbers.
 pub mod Verdicts

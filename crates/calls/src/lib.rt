@@ -1,7 +1,7 @@
 // The twelve calls of document 01, each equal to its rule for all states and all numbers, and the step that takes a call apart.
 ghost use mathlib.Core.Path.{_≡_};
 ghost use Rattle.tables.specs.Machine.{eight, tables};
-ghost use Rattle.rules.specs.Answers.{reply};
+ghost use Rattle.rules.specs.Answers.{made, reply};
 ghost use Rattle.rules.specs.Calls.{start, new, set, bind, export, indirect, transfer, drop, read, ask, bound};
 ghost use Rattle.rules.specs.Deliver.{deliver};
 ghost use Rattle.rules.specs.Step.{step};
@@ -11,7 +11,6 @@ mod verdict;
 
 use changes::deliveries::deliver_message;
 use changes::deliveries::read_end;
-use numbers::both;
 use numbers::either;
 use refusals::bind_refusals;
 use refusals::by_location_refusals;
@@ -45,7 +44,7 @@ pub fn start(p: u8) -> Reply
 
 // The lowest free cell becomes VAR.
 pub fn new(s: State, w: u8) -> Reply
-    ensures { λ r. ⌜ r ≡ reply (new eight (tables s) w) ⌝ }
+    ensures { λ r. ⌜ r ≡ reply (made eight (tables s) (new eight (tables s) w)) ⌝ }
 {
     let cells = s.cells;
     let slots = s.slots;
@@ -58,7 +57,7 @@ pub fn new(s: State, w: u8) -> Reply
 
 // VAR becomes VAL(n).
 pub fn set(s: State, w: u8, c: u8, n: u32) -> Reply
-    ensures { λ r. ⌜ r ≡ reply (set eight (tables s) w c n) ⌝ }
+    ensures { λ r. ⌜ r ≡ reply (made eight (tables s) (set eight (tables s) w c n)) ⌝ }
 {
     let cells = s.cells;
     let k = lookups::cell_at(cells, w, c);
@@ -72,25 +71,23 @@ pub fn set(s: State, w: u8, c: u8, n: u32) -> Reply
 
 // The VAR c becomes a REF to the end of x, an EX.
 pub fn bind(s: State, w: u8, c: u8, x: u8) -> Reply
-    ensures { λ r. ⌜ r ≡ reply (bind eight (tables s) w c x) ⌝ }
+    ensures { λ r. ⌜ r ≡ reply (made eight (tables s) (bind eight (tables s) w c x)) ⌝ }
 {
     let cells = s.cells;
     let entries = s.entries;
     let k = lookups::cell_at(cells, w, c);
     let other = lookups::see(cells, w, x);
     let ex = other.ending;
-    let loose = both(
-        lookups::is_exported(entries, w, c),
-        !lookups::is_safe(entries, w, ex),
-    );
-    let v = bind_refusals(sound::is_sound(s), s.p, w, k, other, loose);
+    let exported = lookups::is_exported(entries, w, c);
+    let safe = lookups::is_safe(entries, w, ex);
+    let v = bind_refusals(sound::is_sound(s), s.p, w, k, other, exported, safe);
     let done = changes::with_cell(Outcome::Done(0), w, c, Kind::Ref(other.end));
     changes::replied(s, v.answer(done))
 }
 
 // The end of c is sent to worker `to`: by location, or an EX by reference.
 pub fn export(s: State, w: u8, c: u8, to: u8) -> Reply
-    ensures { λ r. ⌜ r ≡ reply (export eight (tables s) w c to) ⌝ }
+    ensures { λ r. ⌜ r ≡ reply (made eight (tables s) (export eight (tables s) w c to)) ⌝ }
 {
     let cells = s.cells;
     let entries = s.entries;
@@ -99,18 +96,17 @@ pub fn export(s: State, w: u8, c: u8, to: u8) -> Reply
     let k = look.kind;
     let x = look.end;
     let end = look.ending;
-    let ex = parts::is_ex(end);
     let u = changes::use_entry(entries, w, x);
     let room = lookups::room_at(cells, slots, to);
     let first = send_refusals(sound::is_sound(s), s.p, w, to, k);
-    let v = end_refusals(ex, first, end, u, room);
-    let done = changes::export_end(ex, w, x, end, u, to, room.slot);
+    let v = end_refusals(first, end, u, room);
+    let done = changes::export_end(w, x, to, end, u, room.slot);
     changes::replied(s, v.answer(done))
 }
 
 // The EX at the end of c is sent by location.
 pub fn indirect(s: State, w: u8, c: u8, to: u8) -> Reply
-    ensures { λ r. ⌜ r ≡ reply (indirect eight (tables s) w c to) ⌝ }
+    ensures { λ r. ⌜ r ≡ reply (made eight (tables s) (indirect eight (tables s) w c to)) ⌝ }
 {
     let cells = s.cells;
     let entries = s.entries;
@@ -127,13 +123,13 @@ pub fn indirect(s: State, w: u8, c: u8, to: u8) -> Reply
     );
     let v = by_location_refusals(first, u, room);
     let taint = !lookups::is_safe(entries, w, end);
-    let done = changes::by_location(u, w, x, to, taint, room.slot);
+    let done = changes::by_location(w, x, to, taint, u, room.slot);
     changes::replied(s, v.answer(done))
 }
 
 // The EX c is freed, and its whole weight sent.
 pub fn transfer(s: State, w: u8, c: u8, to: u8) -> Reply
-    ensures { λ r. ⌜ r ≡ reply (transfer eight (tables s) w c to) ⌝ }
+    ensures { λ r. ⌜ r ≡ reply (made eight (tables s) (transfer eight (tables s) w c to)) ⌝ }
 {
     let cells = s.cells;
     let entries = s.entries;
@@ -151,7 +147,7 @@ pub fn transfer(s: State, w: u8, c: u8, to: u8) -> Reply
 
 // The cell c is freed; an EX sends its whole weight back.
 pub fn drop(s: State, w: u8, c: u8) -> Reply
-    ensures { λ r. ⌜ r ≡ reply (drop eight (tables s) w c) ⌝ }
+    ensures { λ r. ⌜ r ≡ reply (made eight (tables s) (drop eight (tables s) w c)) ⌝ }
 {
     let cells = s.cells;
     let entries = s.entries;
@@ -162,13 +158,13 @@ pub fn drop(s: State, w: u8, c: u8) -> Reply
     let ex = parts::is_ex(k);
     let first = cell_refusals(sound::is_sound(s), s.p, w, k).refuse_if(busy, Refusal::Busy);
     let v = slot_refusal(first, ex, slot);
-    let done = changes::dropped(ex, w, c, k, slot);
+    let done = changes::dropped(w, c, k, slot);
     changes::replied(s, v.answer(done))
 }
 
 // The value at the end of c, or a Read sent for it.
 pub fn read(s: State, w: u8, c: u8) -> Reply
-    ensures { λ r. ⌜ r ≡ reply (read eight (tables s) w c) ⌝ }
+    ensures { λ r. ⌜ r ≡ reply (made eight (tables s) (read eight (tables s) w c)) ⌝ }
 {
     let cells = s.cells;
     let slots = s.slots;
@@ -184,7 +180,7 @@ pub fn read(s: State, w: u8, c: u8) -> Reply
 
 // An Ask for more weight is sent from the EX at the end of c.
 pub fn ask(s: State, w: u8, c: u8) -> Reply
-    ensures { λ r. ⌜ r ≡ reply (ask eight (tables s) w c) ⌝ }
+    ensures { λ r. ⌜ r ≡ reply (made eight (tables s) (ask eight (tables s) w c)) ⌝ }
 {
     let cells = s.cells;
     let slots = s.slots;
@@ -203,7 +199,7 @@ pub fn ask(s: State, w: u8, c: u8) -> Reply
 
 // B: no more deliveries than this can succeed.
 pub fn bound(s: State) -> Reply
-    ensures { λ r. ⌜ r ≡ reply (bound eight (tables s)) ⌝ }
+    ensures { λ r. ⌜ r ≡ reply (made eight (tables s) (bound eight (tables s))) ⌝ }
 {
     let entries = s.entries;
     let slots = s.slots;
@@ -214,7 +210,7 @@ pub fn bound(s: State) -> Reply
 
 // The message in the slot is delivered.
 pub fn deliver(s: State, slot: u8) -> Reply
-    ensures { λ r. ⌜ r ≡ reply (deliver eight (tables s) slot) ⌝ }
+    ensures { λ r. ⌜ r ≡ reply (made eight (tables s) (deliver eight (tables s) slot)) ⌝ }
 {
     let cells = s.cells;
     let entries = s.entries;

@@ -1,25 +1,22 @@
 // The table of refusal numbers: the lines that several calls share, each list in its order, on what the call has looked up; and the
 // tests behind them.
 ghost use mathlib.Core.Path.{_≡_};
-ghost use mathlib.Core.List.{[], _∷_, _++_};
-ghost use mathlib.Core.Bool.{false, cond};
-ghost use Rattle.tables.specs.declared.Refusal.the-variants.{NoCell};
-ghost use Rattle.tables.specs.Machine.{Tables, eight};
-ghost use Rattle.tables.specs.Parts.{onEx, isFree};
-ghost use Rattle.rules.specs.Answers.{_when_};
-ghost use Rattle.rules.specs.Refusals.{readSends, ready};
-ghost use Rattle.changes.specs.Effects.{readEnd};
+ghost use mathlib.Core.Bool.{cond};
+ghost use mathlib.Core.List.{[], _∷_};
+ghost use Rattle.tables.specs.Machine.{eight};
+ghost use Rattle.tables.specs.Parts.{isEx};
+ghost use Rattle.rules.specs.Refusals.{idle, readSends, readyAt, noSlotIf};
+ghost use Rattle.rules.specs.Refusals.{workerLines, cellLines, bindLines, sendLines, roomLines, byReferenceLines, byLocationLines};
 ghost use Rattle.calls.specs.declared.verdict.Verdict.the-variants.{Go};
 ghost use Rattle.calls.specs.Verdicts.{along};
-ghost use Rattle.calls.specs.Lines.{workerLines, bindLines, sendLines, slotLine, roomLines, byReferenceLines, byLocationLines};
 use super::verdict::Verdict;
-use changes::Used;
-use lookups::Room;
 use lookups::Seen;
 use tables::Kind;
 use tables::Message;
 use tables::Refusal;
+use tables::Room;
 use tables::Status;
+use tables::Used;
 
 // ---- lists of refusals
 
@@ -34,14 +31,22 @@ pub fn worker_refusals(sound: bool, p: u8, w: u8) -> Verdict
 
 // 2, 3 and 5, of a call on a cell of worker w that holds k.
 pub fn cell_refusals(sound: bool, p: u8, w: u8, k: Kind) -> Verdict
-    ensures { λ r. ⌜ r ≡ along Go (workerLines sound p w ++ (NoCell when isFree k) ∷ []) ⌝ }
+    ensures { λ r. ⌜ r ≡ along Go (cellLines sound p w k) ⌝ }
 {
     worker_refusals(sound, p, w).refuse_if(parts::is_free(k), Refusal::NoCell)
 }
 
-// What bind tests of k, what c holds, and of x and its end: 8 is that c has a live entry and the EX is unsafe.
-pub fn bind_refusals(sound: bool, p: u8, w: u8, k: Kind, x: Seen, loose: bool) -> Verdict
-    ensures { λ r. ⌜ r ≡ along Go (bindLines sound p w k x loose) ⌝ }
+// What bind tests of k, what c holds, and of x and its end; of c whether it has a live entry, and of the EX whether it is safe.
+pub fn bind_refusals(
+    sound: bool,
+    p: u8,
+    w: u8,
+    k: Kind,
+    x: Seen,
+    exported: bool,
+    safe: bool,
+) -> Verdict
+    ensures { λ r. ⌜ r ≡ along Go (bindLines sound p w k (x .kind) (x .ending) exported safe) ⌝ }
 {
     let other = x.kind;
     let ex = x.ending;
@@ -49,7 +54,7 @@ pub fn bind_refusals(sound: bool, p: u8, w: u8, k: Kind, x: Seen, loose: bool) -
         .refuse_if(parts::is_free(other), Refusal::NoCell)
         .refuse_if(!parts::is_var(k), Refusal::WrongKind)
         .refuse_if(!parts::is_ex(ex), Refusal::WrongKind)
-        .refuse_if(loose, Refusal::Unsafe)
+        .refuse_if(numbers::both(exported, !safe), Refusal::Unsafe)
 }
 
 // What export, indirect and transfer test first.
@@ -64,14 +69,14 @@ pub fn send_refusals(sound: bool, p: u8, w: u8, to: u8, k: Kind) -> Verdict
 
 // 13, where a message is sent and this is the lowest empty slot.
 pub fn slot_refusal(v: Verdict, sends: bool, slot: u8) -> Verdict
-    ensures { λ r. ⌜ r ≡ along v (slotLine sends slot ∷ []) ⌝ }
+    ensures { λ r. ⌜ r ≡ along v (noSlotIf eight sends slot ∷ []) ⌝ }
 {
     v.refuse_if(numbers::both(sends, 64 <= slot), Refusal::NoSlot)
 }
 
 // 12 at the receiver, and 13.
 pub fn room_refusals(v: Verdict, room: Room) -> Verdict
-    ensures { λ r. ⌜ r ≡ along v (roomLines room) ⌝ }
+    ensures { λ r. ⌜ r ≡ along v (roomLines eight room) ⌝ }
 {
     let full = room.free <= room.booked;
     slot_refusal(v.refuse_if(full, Refusal::NoRoom), true, room.slot)
@@ -79,7 +84,7 @@ pub fn room_refusals(v: Verdict, room: Room) -> Verdict
 
 // 9, 12 and 13: the EX ex is exported by reference.
 fn by_reference_refusals(v: Verdict, ex: Kind, room: Room) -> Verdict
-    ensures { λ r. ⌜ r ≡ along v (byReferenceLines ex room) ⌝ }
+    ensures { λ r. ⌜ r ≡ along v (byReferenceLines eight ex room) ⌝ }
 {
     let last = parts::ex_weight(ex) <= 1;
     room_refusals(v.refuse_if(last, Refusal::LastWeight), room)
@@ -87,7 +92,7 @@ fn by_reference_refusals(v: Verdict, ex: Kind, room: Room) -> Verdict
 
 // 10 to 13: a cell is exported by location, with the entry u. One above 1,048,576 - 1,024 would pass the ceiling.
 pub fn by_location_refusals(v: Verdict, u: Used, room: Room) -> Verdict
-    ensures { λ r. ⌜ r ≡ along v (byLocationLines u room) ⌝ }
+    ensures { λ r. ⌜ r ≡ along v (byLocationLines eight u room) ⌝ }
 {
     let e = u.number;
     let holding = u.holding;
@@ -98,10 +103,10 @@ pub fn by_location_refusals(v: Verdict, u: Used, room: Room) -> Verdict
 }
 
 // The end k of an exported cell: by reference where it is an EX, and else by location.
-pub fn end_refusals(ex: bool, v: Verdict, k: Kind, u: Used, room: Room) -> Verdict
-    ensures { λ r. ⌜ r ≡ along v (cond ex (byReferenceLines k room) (byLocationLines u room)) ⌝ }
+pub fn end_refusals(v: Verdict, k: Kind, u: Used, room: Room) -> Verdict
+    ensures { λ r. ⌜ r ≡ along v (cond (isEx k) (byReferenceLines eight k room) (byLocationLines eight u room)) ⌝ }
 {
-    if ex {
+    if parts::is_ex(k) {
         by_reference_refusals(v, k, room)
     } else {
         by_location_refusals(v, u, room)
@@ -112,7 +117,7 @@ pub fn end_refusals(ex: bool, v: Verdict, k: Kind, u: Used, room: Room) -> Verdi
 
 // A read that comes to this end sends a Read.
 pub fn read_sends(k: Kind) -> bool
-    ensures { λ r. ⌜ r ≡ onEx false (λ o e n st a. readSends st) k ⌝ }
+    ensures { λ r. ⌜ r ≡ readSends k ⌝ }
 {
     match k {
         Kind::Ex { status, .. } => idle(status),
@@ -121,7 +126,7 @@ pub fn read_sends(k: Kind) -> bool
 }
 
 fn idle(st: Status) -> bool
-    ensures { λ r. ⌜ r ≡ readSends st ⌝ }
+    ensures { λ r. ⌜ r ≡ idle st ⌝ }
 {
     match st {
         Status::Idle => true,
@@ -132,7 +137,7 @@ fn idle(st: Status) -> bool
 
 // A Read is ready unless the end that it comes to is a VAR; all other messages are ready.
 pub fn is_ready(m: Message, end: Kind) -> bool
-    ensures { λ r. ⌜ ((t : Tables) → end ≡ readEnd eight t m → r ≡ ready eight t m) ⌝ }
+    ensures { λ r. ⌜ r ≡ readyAt m end ⌝ }
 {
     match m {
         Message::Empty => true,

@@ -1,8 +1,8 @@
 // A verdict, carried along the refusals of a call in their order.
 ghost use mathlib.Core.Path.{_≡_};
-ghost use Rattle.calls.specs.Verdicts.{refuseIf, answered};
-use changes::Change;
-use changes::Effect;
+ghost use Rattle.calls.specs.Verdicts.{refuseIf, settled};
+use tables::Change;
+use tables::Effect;
 use tables::Outcome;
 use tables::Refusal;
 
@@ -24,7 +24,7 @@ impl Verdict {
 
     // What is done, or the refusal and nothing changed.
     pub fn answer(self, done: Effect) -> Effect
-        ensures { λ r. ⌜ r ≡ answered self done ⌝ }
+        ensures { λ r. ⌜ r ≡ settled self done ⌝ }
     {
         match self {
             Verdict::Stop(why) => Effect {

@@ -11,14 +11,14 @@ ghost use Rattle.rules.specs.Deliver.{takenOff, joined, known, supplied, grown,
 ghost use Rattle.rules.specs.Deliver.{deliverHome, deliverAway, deliverRelease, deliverRead, deliverAnswer, deliverSupply, deliverAsk};
 ghost use Rattle.tables.specs.Parts.{messageWeight};
 ghost use Rattle.tables.specs.Look.{entry};
-ghost use Rattle.changes.specs.Effects.{made, readEnd};
-use super::Effect;
+ghost use Rattle.rules.specs.Refusals.{readEnd};
 use super::add_weights;
 use super::unchanged;
 use super::with_cell_and_message;
 use super::with_entry_and_message;
 use super::with_message;
 use tables::Cell;
+use tables::Effect;
 use tables::Entry;
 use tables::Holding;
 use tables::Kind;
@@ -242,7 +242,7 @@ fn arrival_cell(cells: [Cell; 256], w: u8, o: u8, e: u8) -> u8
 
 // A Reference at the owner.
 fn deliver_home(entries: [Entry; 128], k: u8, o: u8, e: u8, w: u32) -> Effect
-    ensures { λ r. ⌜ ((t : Tables) → t .entries ≡ entries → made eight t r ≡ deliverHome eight t k o e w) ⌝ }
+    ensures { λ r. ⌜ ((t : Tables) → t .entries ≡ entries → r ≡ deliverHome eight t k o e w) ⌝ }
 {
     let x = lookups::entry_at(entries, o, e);
     let value = Outcome::Done(parts::cell_of(x) as u32);
@@ -252,7 +252,7 @@ fn deliver_home(entries: [Entry; 128], k: u8, o: u8, e: u8, w: u32) -> Effect
 
 // A Reference elsewhere.
 fn deliver_away(cells: [Cell; 256], k: u8, to: u8, o: u8, e: u8, w: u32) -> Effect
-    ensures { λ r. ⌜ ((t : Tables) → t .cells ≡ cells → sound eight t ≡ true → w ≤ 1048576 → made eight t r ≡ deliverAway eight t k to o e w) ⌝ }
+    ensures { λ r. ⌜ ((t : Tables) → t .cells ≡ cells → sound eight t ≡ true → w ≤ 1048576 → r ≡ deliverAway eight t k to o e w) ⌝ }
 {
     let c = arrival_cell(cells, to, o, e);
     let ex = joined(o, e, w, lookups::cell_at(cells, to, c));
@@ -268,7 +268,7 @@ fn deliver_reference(
     e: u8,
     w: u32,
 ) -> Effect
-    ensures { λ r. ⌜ ((t : Tables) → t .cells ≡ cells → t .entries ≡ entries → sound eight t ≡ true → w ≤ 1048576 → made eight t r ≡ deliverMessage eight t k (Reference to o e w)) ⌝ }
+    ensures { λ r. ⌜ ((t : Tables) → t .cells ≡ cells → t .entries ≡ entries → sound eight t ≡ true → w ≤ 1048576 → r ≡ deliverMessage eight t k (Reference to o e w)) ⌝ }
 {
     if to == o {
         return deliver_home(entries, k, o, e, w);
@@ -277,7 +277,7 @@ fn deliver_reference(
 }
 
 fn deliver_release(entries: [Entry; 128], k: u8, o: u8, e: u8, w: u32) -> Effect
-    ensures { λ r. ⌜ ((t : Tables) → t .entries ≡ entries → made eight t r ≡ deliverRelease eight t k o e w) ⌝ }
+    ensures { λ r. ⌜ ((t : Tables) → t .entries ≡ entries → r ≡ deliverRelease eight t k o e w) ⌝ }
 {
     let left = taken_off(w, lookups::entry_at(entries, o, e));
     with_entry_and_message(Outcome::Done(0), o, e, left, k, Message::Empty)
@@ -285,7 +285,7 @@ fn deliver_release(entries: [Entry; 128], k: u8, o: u8, e: u8, w: u32) -> Effect
 
 // A Read that comes to this end.
 fn deliver_read(k: u8, r: u8, c: u8, o: u8, e: u8, end: Kind) -> Effect
-    ensures { λ q. ⌜ ((t : Tables) → end ≡ entryEnd eight t o (entry eight t o e) → made eight t q ≡ deliverRead eight t k r c o e) ⌝ }
+    ensures { λ q. ⌜ ((t : Tables) → end ≡ entryEnd eight t o (entry eight t o e) → q ≡ deliverRead eight t k r c o e) ⌝ }
 {
     let m = Message::Read {
         reader: r,
@@ -297,21 +297,21 @@ fn deliver_read(k: u8, r: u8, c: u8, o: u8, e: u8, end: Kind) -> Effect
 }
 
 fn deliver_answer(cells: [Cell; 256], k: u8, r: u8, c: u8, v: u32) -> Effect
-    ensures { λ q. ⌜ ((t : Tables) → t .cells ≡ cells → made eight t q ≡ deliverAnswer eight t k r c v) ⌝ }
+    ensures { λ q. ⌜ ((t : Tables) → t .cells ≡ cells → q ≡ deliverAnswer eight t k r c v) ⌝ }
 {
     let ex = known(v, lookups::cell_at(cells, r, c));
     with_cell_and_message(Outcome::Done(c as u32), r, c, ex, k, Message::Empty)
 }
 
 fn deliver_supply(cells: [Cell; 256], k: u8, a: u8, c: u8, w: u32) -> Effect
-    ensures { λ r. ⌜ ((t : Tables) → t .cells ≡ cells → sound eight t ≡ true → w ≤ 1048576 → made eight t r ≡ deliverSupply eight t k a c w) ⌝ }
+    ensures { λ r. ⌜ ((t : Tables) → t .cells ≡ cells → sound eight t ≡ true → w ≤ 1048576 → r ≡ deliverSupply eight t k a c w) ⌝ }
 {
     let ex = supplied(w, lookups::cell_at(cells, a, c));
     with_cell_and_message(Outcome::Done(c as u32), a, c, ex, k, Message::Empty)
 }
 
 fn deliver_ask(entries: [Entry; 128], k: u8, a: u8, c: u8, o: u8, e: u8) -> Effect
-    ensures { λ r. ⌜ ((t : Tables) → t .entries ≡ entries → made eight t r ≡ deliverAsk eight t k a c o e) ⌝ }
+    ensures { λ r. ⌜ ((t : Tables) → t .entries ≡ entries → r ≡ deliverAsk eight t k a c o e) ⌝ }
 {
     let x = lookups::entry_at(entries, o, e);
     let m = Message::Supply {
@@ -330,7 +330,7 @@ pub fn deliver_message(
     m: Message,
     end: Kind,
 ) -> Effect
-    ensures { λ r. ⌜ ((t : Tables) → t .cells ≡ cells → t .entries ≡ entries → sound eight t ≡ true → messageWeight m ≤ 1048576 → end ≡ readEnd eight t m → made eight t r ≡ deliverMessage eight t k m) ⌝ }
+    ensures { λ r. ⌜ ((t : Tables) → t .cells ≡ cells → t .entries ≡ entries → sound eight t ≡ true → messageWeight m ≤ 1048576 → end ≡ readEnd eight t m → r ≡ deliverMessage eight t k m) ⌝ }
 {
     match m {
         Message::Empty => unchanged(Outcome::Done(0)),

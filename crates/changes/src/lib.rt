@@ -1,22 +1,20 @@
 // What each call does where it is not refused: its answer and what it changes, from what is looked up; and the state then.
 ghost use Prim.Native.Nat.{_≤_, _+_};
 ghost use mathlib.Core.Path.{_≡_};
-ghost use mathlib.Core.Bool.{true, false, cond};
-ghost use Rattle.tables.specs.declared.Outcome.the-variants.{Done, Waiting};
-ghost use Rattle.tables.specs.declared.Kind.the-variants.{Free};
+ghost use Rattle.tables.specs.declared.Change.the-variants.{Nothing, OfCell, OfSlot, OfCellAndSlot, OfEntryAndSlot};
 ghost use Rattle.tables.specs.Machine.{Tables, eight, tables, state};
-ghost use Rattle.tables.specs.Parts.{onEx, entryWeight};
-ghost use Rattle.tables.specs.Look.{cell, lowestEmptySlot, putCell, putEntry, putMessage};
-ghost use Rattle.rules.specs.Answers.{reply};
-ghost use Rattle.rules.specs.Sound.{sound};
-ghost use Rattle.rules.specs.Refusals.{entryToUse};
-ghost use Rattle.rules.specs.Calls.{allFree, gains, byLocation, keeps, sends, byReference, sendsWhole, releases, sent};
-ghost use Rattle.rules.specs.Calls.{readEx, readAt, askEx, costs, B};
-ghost use Rattle.changes.specs.Effects.{used, changed, made};
+ghost use Rattle.tables.specs.Parts.{entryWeight};
+ghost use Rattle.tables.specs.Look.{changed};
+ghost use Rattle.rules.specs.Answers.{made, reply};
+ghost use Rattle.rules.specs.Refusals.{entryToUse, used};
+ghost use Rattle.rules.specs.Calls.{allFree, gains, keeps, sends, sendsWhole, releases, costs, B};
+ghost use Rattle.rules.specs.Calls.{byLocation, byReference, exportEnd, transferred, dropped, readEx, readAt, askEx, askAt};
 
 pub mod deliveries;
 
 use tables::Cell;
+use tables::Change;
+use tables::Effect;
 use tables::Entry;
 use tables::Holding;
 use tables::Kind;
@@ -26,6 +24,7 @@ use tables::Reply;
 use tables::Slot;
 use tables::State;
 use tables::Status;
+use tables::Used;
 
 // P workers, everything free.
 pub fn all_free(p: u8) -> State
@@ -61,43 +60,9 @@ fn add_weights(a: u32, b: u32) -> u32
 
 // ---- what is done, and the state then
 
-// What a call changes: nothing, a cell, a slot, or a slot and a cell or an entry.
-pub enum Change {
-    Nothing,
-    OfCell {
-        w: u8,
-        c: u8,
-        kind: Kind,
-    },
-    OfSlot {
-        slot: u8,
-        message: Message,
-    },
-    OfCellAndSlot {
-        w: u8,
-        c: u8,
-        kind: Kind,
-        slot: u8,
-        message: Message,
-    },
-    OfEntryAndSlot {
-        w: u8,
-        e: u8,
-        holding: Holding,
-        slot: u8,
-        message: Message,
-    },
-}
-
-// What a call does: its answer, and what it changes.
-pub struct Effect {
-    pub outcome: Outcome,
-    pub change: Change,
-}
-
 // This outcome, and nothing changed.
 pub fn unchanged(outcome: Outcome) -> Effect
-    ensures { λ r. ⌜ ((t : Tables) → made eight t r ≡ record { outcome = outcome; after = t }) ⌝ }
+    ensures { λ r. ⌜ r ≡ record { outcome = outcome; change = Nothing } ⌝ }
 {
     Effect {
         outcome: outcome,
@@ -107,7 +72,7 @@ pub fn unchanged(outcome: Outcome) -> Effect
 
 // This outcome, and k in the cell c of worker w.
 pub fn with_cell(outcome: Outcome, w: u8, c: u8, k: Kind) -> Effect
-    ensures { λ r. ⌜ ((t : Tables) → made eight t r ≡ record { outcome = outcome; after = putCell eight t w c k }) ⌝ }
+    ensures { λ r. ⌜ r ≡ record { outcome = outcome; change = OfCell w c k } ⌝ }
 {
     let change = Change::OfCell {
         w: w,
@@ -122,7 +87,7 @@ pub fn with_cell(outcome: Outcome, w: u8, c: u8, k: Kind) -> Effect
 
 // This outcome, and the message m in the slot.
 fn with_message(outcome: Outcome, slot: u8, m: Message) -> Effect
-    ensures { λ r. ⌜ ((t : Tables) → made eight t r ≡ record { outcome = outcome; after = putMessage t slot m }) ⌝ }
+    ensures { λ r. ⌜ r ≡ record { outcome = outcome; change = OfSlot slot m } ⌝ }
 {
     let change = Change::OfSlot {
         slot: slot,
@@ -136,7 +101,7 @@ fn with_message(outcome: Outcome, slot: u8, m: Message) -> Effect
 
 // The same, and k in the cell c of worker w.
 fn with_cell_and_message(outcome: Outcome, w: u8, c: u8, k: Kind, slot: u8, m: Message) -> Effect
-    ensures { λ r. ⌜ ((t : Tables) → made eight t r ≡ record { outcome = outcome; after = putMessage (putCell eight t w c k) slot m }) ⌝ }
+    ensures { λ r. ⌜ r ≡ record { outcome = outcome; change = OfCellAndSlot w c k slot m } ⌝ }
 {
     let change = Change::OfCellAndSlot {
         w: w,
@@ -160,7 +125,7 @@ fn with_entry_and_message(
     slot: u8,
     m: Message,
 ) -> Effect
-    ensures { λ r. ⌜ ((t : Tables) → made eight t r ≡ record { outcome = outcome; after = putMessage (putEntry eight t w e x) slot m }) ⌝ }
+    ensures { λ r. ⌜ r ≡ record { outcome = outcome; change = OfEntryAndSlot w e x slot m } ⌝ }
 {
     let change = Change::OfEntryAndSlot {
         w: w,
@@ -215,12 +180,6 @@ pub fn replied(s: State, d: Effect) -> Reply
 
 // ---- export, indirect, transfer
 
-// An entry to use: its number, and what it holds.
-pub struct Used {
-    pub number: u8,
-    pub holding: Holding,
-}
-
 // The number of the entry of the cell c, or of the lowest free one.
 fn entry_to_use(entries: [Entry; 128], w: u8, c: u8) -> u8
     ensures { λ r. ⌜ ((t : Tables) → t .entries ≡ entries → r ≡ entryToUse eight t w c) ⌝ }
@@ -267,8 +226,8 @@ fn gains(c: u8, taint: bool, x: Holding) -> Holding
 }
 
 // By location, the cell x itself, with the entry u and the lowest empty slot.
-pub fn by_location(u: Used, w: u8, x: u8, to: u8, taint: bool, slot: u8) -> Effect
-    ensures { λ r. ⌜ ((t : Tables) → sound eight t ≡ true → u ≡ used eight t w x → slot ≡ lowestEmptySlot eight t → made eight t r ≡ byLocation eight t w x to taint) ⌝ }
+pub fn by_location(w: u8, x: u8, to: u8, taint: bool, u: Used, slot: u8) -> Effect
+    ensures { λ r. ⌜ (entryWeight (u .holding) ≤ 1048576 → r ≡ byLocation eight w x to taint u slot) ⌝ }
 {
     let e = u.number;
     let holding = u.holding;
@@ -324,21 +283,21 @@ fn sends(to: u8, k: Kind) -> Message
 }
 
 // By reference, the EX x, which holds ex.
-fn by_reference(w: u8, x: u8, ex: Kind, to: u8, slot: u8) -> Effect
-    ensures { λ r. ⌜ ((t : Tables) → ex ≡ cell eight t w x → slot ≡ lowestEmptySlot eight t → made eight t r ≡ byReference eight t w x to) ⌝ }
+fn by_reference(w: u8, x: u8, to: u8, ex: Kind, slot: u8) -> Effect
+    ensures { λ r. ⌜ r ≡ byReference eight w x to ex slot ⌝ }
 {
     let done = Outcome::Done(slot as u32);
     with_cell_and_message(done, w, x, keeps(ex), slot, sends(to, ex))
 }
 
 // The end x of an exported cell, which holds k: by reference where it is an EX, and else by location.
-pub fn export_end(ex: bool, w: u8, x: u8, k: Kind, u: Used, to: u8, slot: u8) -> Effect
-    ensures { λ r. ⌜ ((t : Tables) → sound eight t ≡ true → k ≡ cell eight t w x → u ≡ used eight t w x → slot ≡ lowestEmptySlot eight t → made eight t r ≡ cond ex (byReference eight t w x to) (byLocation eight t w x to false)) ⌝ }
+pub fn export_end(w: u8, x: u8, to: u8, k: Kind, u: Used, slot: u8) -> Effect
+    ensures { λ r. ⌜ (entryWeight (u .holding) ≤ 1048576 → r ≡ exportEnd eight w x to k u slot) ⌝ }
 {
-    if ex {
-        by_reference(w, x, k, to, slot)
+    if parts::is_ex(k) {
+        by_reference(w, x, to, k, slot)
     } else {
-        by_location(u, w, x, to, false, slot)
+        by_location(w, x, to, false, u, slot)
     }
 }
 
@@ -364,7 +323,7 @@ fn sends_whole(to: u8, k: Kind) -> Message
 
 // The EX of the cell c, freed and sent.
 pub fn transferred(w: u8, c: u8, to: u8, ex: Kind, slot: u8) -> Effect
-    ensures { λ r. ⌜ ((t : Tables) → slot ≡ lowestEmptySlot eight t → made eight t r ≡ sent eight t (putCell eight t w c Free) (sendsWhole to ex)) ⌝ }
+    ensures { λ r. ⌜ r ≡ transferred w c to ex slot ⌝ }
 {
     let done = Outcome::Done(slot as u32);
     with_cell_and_message(done, w, c, Kind::Free, slot, sends_whole(to, ex))
@@ -392,10 +351,10 @@ fn releases(k: Kind) -> Message
 }
 
 // The cell c, which held k, is freed: an EX sends its weight, any other kind nothing.
-pub fn dropped(ex: bool, w: u8, c: u8, k: Kind, slot: u8) -> Effect
-    ensures { λ r. ⌜ ((t : Tables) → slot ≡ lowestEmptySlot eight t → made eight t r ≡ cond ex (sent eight t (putCell eight t w c Free) (releases k)) (record { outcome = Done 64; after = putCell eight t w c Free })) ⌝ }
+pub fn dropped(w: u8, c: u8, k: Kind, slot: u8) -> Effect
+    ensures { λ r. ⌜ r ≡ dropped w c k slot ⌝ }
 {
-    if ex {
+    if parts::is_ex(k) {
         let done = Outcome::Done(slot as u32);
         with_cell_and_message(done, w, c, Kind::Free, slot, releases(k))
     } else {
@@ -406,8 +365,8 @@ pub fn dropped(ex: bool, w: u8, c: u8, k: Kind, slot: u8) -> Effect
 // ---- read and ask
 
 // A read that comes to an EX, by its status.
-fn read_ex(w: u8, x: u8, o: u8, e: u8, n: u32, st: Status, a: bool, slot: u8) -> Effect
-    ensures { λ r. ⌜ ((t : Tables) → slot ≡ lowestEmptySlot eight t → made eight t r ≡ readEx eight t w x o e n st a) ⌝ }
+fn read_ex(w: u8, x: u8, slot: u8, o: u8, e: u8, n: u32, st: Status, a: bool) -> Effect
+    ensures { λ r. ⌜ r ≡ readEx w x slot o e n st a ⌝ }
 {
     match st {
         Status::Idle => with_cell_and_message(
@@ -436,7 +395,7 @@ fn read_ex(w: u8, x: u8, o: u8, e: u8, n: u32, st: Status, a: bool, slot: u8) ->
 
 // A read that comes to the end x, which holds k.
 pub fn read_at(w: u8, x: u8, k: Kind, slot: u8) -> Effect
-    ensures { λ r. ⌜ ((t : Tables) → slot ≡ lowestEmptySlot eight t → made eight t r ≡ readAt eight t w x k) ⌝ }
+    ensures { λ r. ⌜ r ≡ readAt w x k slot ⌝ }
 {
     match k {
         Kind::Free => unchanged(Outcome::Unbound),
@@ -449,13 +408,13 @@ pub fn read_at(w: u8, x: u8, k: Kind, slot: u8) -> Effect
             weight,
             status,
             asking,
-        } => read_ex(w, x, owner, entry, weight, status, asking, slot),
+        } => read_ex(w, x, slot, owner, entry, weight, status, asking),
     }
 }
 
 // An ask that comes to an EX: asking already, or not.
-fn ask_ex(w: u8, x: u8, o: u8, e: u8, n: u32, st: Status, a: bool, slot: u8) -> Effect
-    ensures { λ r. ⌜ ((t : Tables) → slot ≡ lowestEmptySlot eight t → made eight t r ≡ askEx eight t w x o e n st a) ⌝ }
+fn ask_ex(w: u8, x: u8, slot: u8, o: u8, e: u8, n: u32, st: Status, a: bool) -> Effect
+    ensures { λ r. ⌜ r ≡ askEx w x slot o e n st a ⌝ }
 {
     if a {
         return unchanged(Outcome::Waiting);
@@ -483,7 +442,7 @@ fn ask_ex(w: u8, x: u8, o: u8, e: u8, n: u32, st: Status, a: bool, slot: u8) -> 
 
 // An ask that comes to the end x, which holds k.
 pub fn ask_at(w: u8, x: u8, k: Kind, slot: u8) -> Effect
-    ensures { λ r. ⌜ ((t : Tables) → slot ≡ lowestEmptySlot eight t → made eight t r ≡ onEx (record { outcome = Waiting; after = t }) (askEx eight t w x) k) ⌝ }
+    ensures { λ r. ⌜ r ≡ askAt w x k slot ⌝ }
 {
     match k {
         Kind::Ex {
@@ -492,7 +451,7 @@ pub fn ask_at(w: u8, x: u8, k: Kind, slot: u8) -> Effect
             weight,
             status,
             asking,
-        } => ask_ex(w, x, owner, entry, weight, status, asking, slot),
+        } => ask_ex(w, x, slot, owner, entry, weight, status, asking),
         _ => unchanged(Outcome::Waiting),
     }
 }

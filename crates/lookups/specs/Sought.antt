@@ -1,13 +1,12 @@
--- When a cell or an entry is what a search is for; a cell with its end, and the room for a Reference. Assumes nothing.
+-- When a cell or an entry is what a search is for; and a cell with its end. Assumes nothing.
 use Prim.Native.Nat.{ℕ}
 use mathlib.Core.Bool.{Bool}
 use Rattle.tables.specs.declared.Kind.{Kind}
 use Rattle.tables.specs.declared.Holding.{Holding}
 use Rattle.tables.specs.Machine.{Machine, Tables}
 use Rattle.tables.specs.Parts.{isFree, exNames, refNames, isUnused, entryNames}
-use Rattle.tables.specs.Look.{cell, end, endKind, freeCells, booked, lowestEmptySlot}
+use Rattle.tables.specs.Look.{cell, end, endKind}
 use Rattle.lookups.specs.declared.Seen.{Seen}
-use Rattle.lookups.specs.declared.Room.{Room}
 use Rattle.lookups.specs.declared.SoughtCell.{SoughtCell}
 use Rattle.lookups.specs.declared.SoughtCell.the-variants.{FreeCell, RefTo, ExOf}
 use Rattle.lookups.specs.declared.SoughtEntry.{SoughtEntry}
@@ -25,7 +24,3 @@ isSoughtEntry (EntryOf c) x = entryNames c x
 -- what the cell c of worker w holds, the number of its end, and what the end holds
 abbrev pub seen : Machine → Tables → ℕ → ℕ → Seen
 seen 𝓜 s w c = record { kind = cell 𝓜 s w c; end = end 𝓜 s w c; ending = endKind 𝓜 s w c }
-
--- the free cells and the References booked at worker w, and the lowest empty slot
-abbrev pub room : Machine → Tables → ℕ → Room
-room 𝓜 s w = record { free = freeCells 𝓜 s w; booked = booked s w; slot = lowestEmptySlot 𝓜 s }

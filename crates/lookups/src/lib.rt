@@ -5,8 +5,8 @@ ghost use mathlib.Core.Path.{_≡_};
 ghost use Rattle.numbers.specs.Below.{lowest};
 ghost use Rattle.tables.specs.Machine.{Tables, eight, tables, state};
 ghost use Rattle.tables.specs.Look.{cell, entry, message, putCell, putEntry, putMessage, safe, entryOf, exported, referred, busy};
-ghost use Rattle.tables.specs.Look.{lowestFreeCell, lowestFreeEntry, lowestEmptySlot, exNaming, freeCells, booked, liveEntries};
-ghost use Rattle.lookups.specs.Sought.{isSought, isSoughtEntry, seen, room};
+ghost use Rattle.tables.specs.Look.{lowestFreeCell, lowestFreeEntry, lowestEmptySlot, exNaming, freeCells, booked, liveEntries, room};
+ghost use Rattle.lookups.specs.Sought.{isSought, isSoughtEntry, seen};
 use numbers::bit_of;
 use numbers::both;
 use numbers::either;
@@ -15,6 +15,7 @@ use tables::Entry;
 use tables::Holding;
 use tables::Kind;
 use tables::Message;
+use tables::Room;
 use tables::Slot;
 use tables::State;
 
@@ -353,13 +354,6 @@ pub fn live_entries(entries: [Entry; 128]) -> u8
 }
 
 // ---- what is looked at where a message is sent
-
-// Free cells and References booked at the receiver, and the lowest empty slot.
-pub struct Room {
-    pub free: u8,
-    pub booked: u8,
-    pub slot: u8,
-}
 
 // The room for a Reference to worker w.
 pub fn room_at(cells: [Cell; 256], slots: [Slot; 64], w: u8) -> Room

@@ -23,7 +23,8 @@ use Rattle.tables.specs.declared.Place.{Place}
 use Rattle.tables.specs.declared.Place.the-variants.{Nowhere, At}
 use Rattle.tables.specs.Machine.{Machine, Tables}
 use Rattle.tables.specs.Parts.{isFree, isVar, isVal, isReading, isAsking, exNames, namedBy, isLive, isTainted, entryNames, entryWeight, isEmpty, goesTo, cellOf}
-use Rattle.tables.specs.Look.{cell, entry, end, endKind, exNaming, lowestFreeCell, booked, freeCells, message, putCell, putEntry, putMessage}
+use Rattle.tables.specs.Look.{cell, entry, end, endKind, exNaming, lowestFreeCell, booked, freeCells, message, putCell, putEntry, putMessage, changed}
+use Rattle.rules.specs.Answers.{made}
 use Rattle.rules.specs.Chains.{entryEnd, follow, ahead, EndsIn}
 use Rattle.rules.specs.Sound.{readsFor, asksFor, messageHolds, held}
 use Rattle.rules.specs.Refusals.{ready, deliverRefusals}
@@ -33,7 +34,7 @@ use Rattle.rules.specs.Facts.{EntryFact, MessageFact, Facts, ReadAhead, 
 use Rattle.rules.proofs.Inside.{cell-inside, entry-inside, message-total}
 use Rattle.rules.proofs.Named.{nowhere-at, the-live, ExOf, the-ex-of, eq-both, both-eq}
 use Rattle.rules.proofs.Derived.{live-fact, held-live, message-held, names-live, reading-cell, asking-cell, LivePlace, named-place, read-live}
-use Rattle.rules.specs.Move.{next, Keeps, TrueValues, Makes, nothing}
+use Rattle.rules.specs.Move.{next, Keeps, TrueValues, Makes}
 use Rattle.rules.proofs.Next.{cell-stored}
 use Rattle.rules.proofs.Kept.{facts-kept}
 use Rattle.rules.proofs.Walks.{follow-live, ahead-add, ends-before}
@@ -42,7 +43,7 @@ use Rattle.rules.proofs.Count.{standing-some, standing-falls}
 use Rattle.rules.proofs.Ends.{EndIs, plain, leads, end-is}
 use Rattle.rules.proofs.Measure.{spends, status-same, Delivers, delivers-makes, delivers-cell, delivers-ex, delivers-entry, delivers-slot}
 use Rattle.rules.proofs.Moves.{cellMove, entryMove, slotMove, ExMoves, ex-keeps, entry-keeps}
-use Rattle.rules.proofs.Steps.{after-checked, not-false, cond-add, free-cell, free-not-busy}
+use Rattle.rules.proofs.Steps.{makes-checked, not-false, cond-add, free-cell, free-not-busy}
 use Rattle.rules.proofs.Local.{weight-some}
 use Rattle.rules.proofs.Entries.{cells-same, entries-same, entry-next}
 
@@ -137,7 +138,7 @@ module _ (𝓜 : Machine) (L : Laws 𝓜) (s : Tables) (F : Facts 𝓜 s) (reads
   arrives-booked k to o e w q =
       omega (arith, message-total 𝓜 s (λ m. bit (goesTo to m)) refl k, ap (λ (m : Message). bit (goesTo to m)) q, ap bit (eq-eqb to to refl))
 
-  away-arrives : (k to o e w : ℕ) → message s k ≡ Reference to o e w → eqb to o ≡ false → Delivers 𝓜 s (deliverAway 𝓜 s k to o e w .after)
+  away-arrives : (k to o e w : ℕ) → message s k ≡ Reference to o e w → eqb to o ≡ false → Delivers 𝓜 s (made 𝓜 s (deliverAway 𝓜 s k to o e w) .after)
   unfolding deliverAway arrivalCell exNaming
   away-arrives k to o e w q other = go (ltb (exNaming 𝓜 s to o e) (𝓜 .cells)) refl
     where
@@ -291,7 +292,7 @@ module _ (𝓜 : Machine) (L : Laws 𝓜) (s : Tables) (F : Facts 𝓜 s) (reads
       (λ ρ R. omega (arith, standing-some 𝓜 L (next 𝓜 s h) (facts-kept 𝓜 s h F K .sized) ρ o e live))
 
   -- "Read"
-  read-arrives : (k r c o e : ℕ) → message s k ≡ Read r c o e → ready 𝓜 s (Read r c o e) ≡ true → Delivers 𝓜 s (deliverRead 𝓜 s k r c o e .after)
+  read-arrives : (k r c o e : ℕ) → message s k ≡ Read r c o e → ready 𝓜 s (Read r c o e) ≡ true → Delivers 𝓜 s (made 𝓜 s (deliverRead 𝓜 s k r c o e) .after)
   unfolding deliverRead endKind ahead ready
   read-arrives k r c o e q is-ready =
       let l = the-live (entry 𝓜 s o e) (read-live 𝓜 s F reads k r c o e q) in
@@ -317,7 +318,7 @@ module _ (𝓜 : Machine) (L : Laws 𝓜) (s : Tables) (F : Facts 𝓜 s) (reads
           (λ t′. ends-before 𝓜 s 1 (At o e) (At o′ e′) v (follow-live 𝓜 s o e d n t i ∙ ap namedBy j) (subst (KnownFact 𝓜 s) j (t′ .exes o (end 𝓜 s o d))))
 
   -- "Answer"
-  answer-arrives : (k r c v : ℕ) → message s k ≡ Answer r c v → Delivers 𝓜 s (deliverAnswer 𝓜 s k r c v .after)
+  answer-arrives : (k r c v : ℕ) → message s k ≡ Answer r c v → Delivers 𝓜 s (made 𝓜 s (deliverAnswer 𝓜 s k r c v) .after)
   unfolding deliverAnswer
   answer-arrives k r c v q =
       go (cell 𝓜 s r c) refl (reading-cell 𝓜 s F k r c (ap (readsFor r c) q ∙ eq-both r c))
@@ -349,7 +350,7 @@ module _ (𝓜 : Machine) (L : Laws 𝓜) (s : Tables) (F : Facts 𝓜 s) (reads
           tt
 
   -- "Supply"
-  supply-arrives : (k a c w : ℕ) → message s k ≡ Supply a c w → Delivers 𝓜 s (deliverSupply 𝓜 s k a c w .after)
+  supply-arrives : (k a c w : ℕ) → message s k ≡ Supply a c w → Delivers 𝓜 s (made 𝓜 s (deliverSupply 𝓜 s k a c w) .after)
   unfolding deliverSupply
   supply-arrives k a c w q =
       go (cell 𝓜 s a c) refl (asking-cell 𝓜 s F k a c (ap (asksFor a c) q ∙ eq-both a c))
@@ -379,7 +380,7 @@ module _ (𝓜 : Machine) (L : Laws 𝓜) (s : Tables) (F : Facts 𝓜 s) (reads
           (status-same st)
 
   -- "Ask"
-  ask-arrives : (k a c o e : ℕ) → message s k ≡ Ask a c o e → Delivers 𝓜 s (deliverAsk 𝓜 s k a c o e .after)
+  ask-arrives : (k a c o e : ℕ) → message s k ≡ Ask a c o e → Delivers 𝓜 s (made 𝓜 s (deliverAsk 𝓜 s k a c o e) .after)
   unfolding deliverAsk
   ask-arrives k a c o e q =
       let names : exNames o e (cell 𝓜 s a c) ≡ true = subst (MessageFact 𝓜 s) q (F .messages k) in
@@ -427,12 +428,12 @@ module _ (𝓜 : Machine) (L : Laws 𝓜) (s : Tables) (F : Facts 𝓜 s) (reads
       record { slot = q; full = refl; holds = λ a b. refl; some = f; no-read = λ v d. refl; no-ask = λ v d. refl; cost = λ t ρ. omega arith }
 
   -- a message that is there, and ready, arrives
-  pub message-arrives : (k : ℕ) (m : Message) → message s k ≡ m → isEmpty m ≡ false → ready 𝓜 s m ≡ true → Delivers 𝓜 s (deliverMessage 𝓜 s k m .after)
+  pub message-arrives : (k : ℕ) (m : Message) → message s k ≡ m → isEmpty m ≡ false → ready 𝓜 s m ≡ true → Delivers 𝓜 s (made 𝓜 s (deliverMessage 𝓜 s k m) .after)
   unfolding deliverMessage deliverHome deliverRelease
   message-arrives k Empty q full is-ready = absurd-bool refl full
   message-arrives k (Reference to o e w) q full is-ready = go (eqb to o) refl
     where
-      go : (b : Bool) → eqb to o ≡ b → Delivers 𝓜 s (cond b (deliverHome 𝓜 s k o e w) (deliverAway 𝓜 s k to o e w) .after)
+      go : (b : Bool) → eqb to o ≡ b → Delivers 𝓜 s (changed 𝓜 s (cond b (deliverHome 𝓜 s k o e w) (deliverAway 𝓜 s k to o e w) .change))
       go true t = taken-arrives k o e w (Reference to o e w) (reference-brings k to o e w q)
       go false t = away-arrives k to o e w q t
   message-arrives k (Release o e w) q full is-ready = taken-arrives k o e w (Release o e w) (release-brings k o e w q)
@@ -441,10 +442,10 @@ module _ (𝓜 : Machine) (L : Laws 𝓜) (s : Tables) (F : Facts 𝓜 s) (reads
   message-arrives k (Ask a c o e) q full is-ready = ask-arrives k a c o e q
   message-arrives k (Supply a c w) q full is-ready = supply-arrives k a c w q
 
-pub deliver-makes : (𝓜 : Machine) (L : Laws 𝓜) (s : Tables) (F : Facts 𝓜 s) (reads : Reads 𝓜 s) (k : ℕ) → Makes 𝓜 s (deliver 𝓜 s k .after)
+pub deliver-makes : (𝓜 : Machine) (L : Laws 𝓜) (s : Tables) (F : Facts 𝓜 s) (reads : Reads 𝓜 s) (k : ℕ) → Makes 𝓜 s (made 𝓜 s (deliver 𝓜 s k) .after)
 unfolding deliver
 deliver-makes 𝓜 L s F reads k =
-    after-checked (Makes 𝓜 s) s (deliverRefusals 𝓜 s k) (deliverMessage 𝓜 s k (message s k)) nothing
+    makes-checked 𝓜 s (deliverRefusals 𝓜 s k) (deliverMessage 𝓜 s k (message s k))
     (λ p.
-    delivers-makes 𝓜 s (deliverMessage 𝓜 s k (message s k) .after)
+    delivers-makes 𝓜 s (made 𝓜 s (deliverMessage 𝓜 s k (message s k)) .after)
     (message-arrives 𝓜 L s F reads k (message s k) refl (search) (not-false (search))))

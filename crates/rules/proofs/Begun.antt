@@ -2,7 +2,7 @@
 use Prim.Native.Nat.{ℕ, _+_, _*_, _≤_}
 use native.Mathlib.Omega.{arith}
 use mathlib.Core.Path.{_≡_, refl, sym, ap, subst, _∙_}
-use mathlib.Core.Bool.{Bool, true, false, _||_}
+use mathlib.Core.Bool.{Bool, true, false, _||_, cond}
 use lib.Dec.{eqb, ltb}
 use lib.ListN.{length-replicate}
 use borrow.Author.Tests.{ltb-false}
@@ -18,13 +18,13 @@ use Rattle.tables.specs.declared.Kind.the-variants.{Free}
 use Rattle.tables.specs.declared.Holding.the-variants.{Unused}
 use Rattle.tables.specs.declared.Message.{Message}
 use Rattle.tables.specs.declared.Message.the-variants.{Empty}
-use Rattle.tables.specs.declared.Outcome.the-variants.{Done}
+use Rattle.tables.specs.declared.Outcome.the-variants.{Done, Refused}
 use Rattle.tables.specs.declared.Refusal.the-variants.{WorkerCount}
 use Rattle.tables.specs.declared.Place.the-variants.{At}
 use Rattle.tables.specs.Machine.{Machine, Tables}
 use Rattle.tables.specs.Parts.{isReading, isAsking, exNames, isLive, entryNames, entryWeight, goesTo}
 use Rattle.tables.specs.Look.{cell, entry, booked, message}
-use Rattle.rules.specs.Answers.{refuse, checked}
+use Rattle.rules.specs.Answers.{Result}
 use Rattle.rules.specs.Chains.{through, follow}
 use Rattle.rules.specs.Sound.{readsFor, asksFor, readsOf, asksOf, cellHolds, messageHolds, held}
 use Rattle.rules.specs.Calls.{allFree, closed, start}
@@ -109,11 +109,11 @@ module _ (𝓜 : Machine) (p : ℕ) where
 
 -- of a refused start too, which gives the closed state
 pub start-invariant : (𝓜 : Machine) (p : ℕ) → Invariant 𝓜 (start 𝓜 p .after)
-unfolding start checked
+unfolding start
 start-invariant 𝓜 p = go (eqb p 0 || ltb (𝓜 .workers) p) refl
   where
     go : (b : Bool) → (eqb p 0 || ltb (𝓜 .workers) p) ≡ b
-        → Invariant 𝓜 (refuse b WorkerCount (closed 𝓜) (record { outcome = Done 0; after = allFree 𝓜 p }) .after)
+        → Invariant 𝓜 (cond {A = Result} b (record { outcome = Refused WorkerCount; after = closed 𝓜 }) (record { outcome = Done 0; after = allFree 𝓜 p }) .after)
     go true t = free-invariant 𝓜 0 (omega arith)
     go false t =
         let n = or-no (eqb p 0) (ltb (𝓜 .workers) p) t in

@@ -13,23 +13,23 @@ use Rattle.tables.specs.declared.Kind.{Kind}
 use Rattle.tables.specs.declared.Kind.the-variants.{Free, Var, Val, Ref, Ex}
 use Rattle.tables.specs.declared.Message.{Message}
 use Rattle.tables.specs.declared.Message.the-variants.{Empty, Reference, Release}
-use Rattle.tables.specs.declared.Outcome.the-variants.{Done}
+use Rattle.tables.specs.declared.Change.the-variants.{OfCell}
 use Rattle.tables.specs.Machine.{Machine, Tables}
 use Rattle.tables.specs.Parts.{readingOf, isFree, isEx, isReading, isAsking, goesTo}
-use Rattle.tables.specs.Look.{cell, entry, end, endKind, safe, exported, busy, lowestFreeCell, lowestEmptySlot, booked, freeCells, message, putCell, putMessage}
-use Rattle.rules.specs.Answers.{Result}
+use Rattle.tables.specs.Look.{cell, entry, end, endKind, safe, exported, busy, lowestFreeCell, lowestEmptySlot, booked, freeCells, message, putCell, putMessage, changed}
+use Rattle.rules.specs.Answers.{done, made}
 use Rattle.rules.specs.Sound.{readsFor, asksFor, cellHolds, messageHolds}
 use Rattle.rules.specs.Refusals.{newRefusals, setRefusals, bindRefusals, transferRefusals, dropRefusals}
-use Rattle.rules.specs.Calls.{new, set, bind, transfer, drop, sendsWhole, releases}
+use Rattle.rules.specs.Calls.{sendsWhole, transferred, dropped, new, set, bind, transfer, drop}
 use Rattle.rules.specs.Machines.{Laws}
 use Rattle.rules.specs.Facts.{CellFact, MessageFact, ReadAhead, AnswerFact, Facts}
 use Rattle.rules.proofs.Inside.{cell-inside}
 use Rattle.rules.proofs.Named.{the-ex, not-on-ex}
 use Rattle.rules.proofs.Busy.{idle-parts}
-use Rattle.rules.specs.Move.{next, Placed, VarBecomes, stays, bound, Makes, nothing}
+use Rattle.rules.specs.Move.{next, Placed, VarBecomes, stays, bound, Makes}
 use Rattle.rules.proofs.Next.{cell-stored}
 use Rattle.rules.proofs.Moves.{cellMove, CellMoves}
-use Rattle.rules.proofs.Steps.{after-checked, not-false, var-is, zero-cond, free-cell, empty-slot, has-room, room-sent, room-same, free-not-busy, makes-cell, makes-cell-message}
+use Rattle.rules.proofs.Steps.{makes-checked, not-false, var-is, zero-cond, free-cell, empty-slot, has-room, room-sent, room-same, free-not-busy, makes-cell, makes-cell-message}
 
 -- a message that carries the weight n of the entry e of worker o, and is no Read, Answer, Ask or Supply
 pub record Sends (𝓜 : Machine) (s : Tables) (o e n : ℕ) (m : Message) : Type 0 where
@@ -87,11 +87,11 @@ module _ (𝓜 : Machine) (L : Laws 𝓜) (s : Tables) (F : Facts 𝓜 s) where
           subst (λ (y : ℕ). booked s y + bit (goesTo y (message s 0)) + 1 ≤ freeCells 𝓜 s y + bit (goesTo y (message s 0)) + 0) e (omega arith)
       go v false t = omega (arith, F .room v)
 
-  pub new-makes : (w : ℕ) → Makes 𝓜 s (new 𝓜 s w .after)
+  pub new-makes : (w : ℕ) → Makes 𝓜 s (made 𝓜 s (new 𝓜 s w) .after)
   unfolding new
   new-makes w =
       let c = lowestFreeCell 𝓜 s w in
-      after-checked (Makes 𝓜 s) s (newRefusals 𝓜 s w) (record { outcome = Done c; after = putCell 𝓜 s w c Var }) nothing
+      makes-checked 𝓜 s (newRefusals 𝓜 s w) (done c (OfCell w c Var))
       (λ p.
       let u = worker-used w (search) in
       let r = has-room 𝓜 L s F w (search) in
@@ -126,20 +126,20 @@ module _ (𝓜 : Machine) (L : Laws 𝓜) (s : Tables) (F : Facts 𝓜 s) where
       zeroes v true n e = omega (arith, F .room v)
       zeroes v false n e = omega (arith, F .room v)
 
-  pub set-makes : (w c n : ℕ) → Makes 𝓜 s (set 𝓜 s w c n .after)
+  pub set-makes : (w c n : ℕ) → Makes 𝓜 s (made 𝓜 s (set 𝓜 s w c n) .after)
   unfolding set
   set-makes w c n =
-      after-checked (Makes 𝓜 s) s (setRefusals 𝓜 s w c) (record { outcome = Done 0; after = putCell 𝓜 s w c (Val n) }) nothing
+      makes-checked 𝓜 s (setRefusals 𝓜 s w c) (done 0 (OfCell w c (Val n)))
       (λ p.
       let u = worker-used w (search) in
       let q = var-is (cell 𝓜 s w c) (not-false (search)) in
       makes-cell 𝓜 L s F w c Var (Val n) (var-moves w c (Val n) q (u .0) (λ x. stays refl) refl refl) (inl refl) (λ t. record { answer-ok = inl refl; known-ok = inr tt }))
 
-  pub bind-makes : (w c x : ℕ) → Makes 𝓜 s (bind 𝓜 s w c x .after)
+  pub bind-makes : (w c x : ℕ) → Makes 𝓜 s (made 𝓜 s (bind 𝓜 s w c x) .after)
   unfolding bind endKind
   bind-makes w c x =
       let y = end 𝓜 s w x in
-      after-checked (Makes 𝓜 s) s (bindRefusals 𝓜 s w c x) (record { outcome = Done 0; after = putCell 𝓜 s w c (Ref y) }) nothing
+      makes-checked 𝓜 s (bindRefusals 𝓜 s w c x) (done 0 (OfCell w c (Ref y)))
       (λ p.
       let u = worker-used w (search) in
       let q = var-is (cell 𝓜 s w c) (not-false (search)) in
@@ -243,10 +243,10 @@ module _ (𝓜 : Machine) (L : Laws 𝓜) (s : Tables) (F : Facts 𝓜 s) where
       (inr (0, z .no-ahead (next 𝓜 s (cellMove 𝓜 s w c (Ex o e n st a) Free (lowestEmptySlot 𝓜 s) Empty m)))) (λ t. record { answer-ok = inr (z .no-answer (next 𝓜 s (cellMove 𝓜 s w c (Ex o e n st a) Free (lowestEmptySlot 𝓜 s) Empty m))); known-ok = inr tt })
 
   -- "transfer"
-  pub transfer-makes : (w c to : ℕ) → Makes 𝓜 s (transfer 𝓜 s w c to .after)
+  pub transfer-makes : (w c to : ℕ) → Makes 𝓜 s (made 𝓜 s (transfer 𝓜 s w c to) .after)
   unfolding transfer
   transfer-makes w c to =
-      after-checked (Makes 𝓜 s) s (transferRefusals 𝓜 s w c to) (record { outcome = Done (lowestEmptySlot 𝓜 s); after = putMessage (putCell 𝓜 s w c Free) (lowestEmptySlot 𝓜 s) (sendsWhole to (cell 𝓜 s w c)) }) nothing
+      makes-checked 𝓜 s (transferRefusals 𝓜 s w c to) (transferred w c to (cell 𝓜 s w c) (lowestEmptySlot 𝓜 s))
       (λ p.
       let u = worker-used to (search) in
       let x = the-ex (cell 𝓜 s w c) (not-false (search)) in
@@ -254,19 +254,14 @@ module _ (𝓜 : Machine) (L : Laws 𝓜) (s : Tables) (F : Facts 𝓜 s) where
       subst (λ (k : Kind). Makes 𝓜 s (putMessage (putCell 𝓜 s w c Free) (lowestEmptySlot 𝓜 s) (sendsWhole to k))) (sym (x .is)) (frees-sent w c (x .owner) (x .entry) (x .weight) (x .status) (x .asking) (Reference to (x .owner) (x .entry) (x .weight)) (x .is) (search) (search) (reference-sends to (x .owner) (x .entry) (x .weight) (u .0) (weight-some w c (x .owner) (x .entry) (x .weight) (x .status) (x .asking) (x .is))) (room-sent 𝓜 L s F to (x .owner) (x .entry) (x .weight) r)))
 
   -- "drop"
-  pub drop-makes : (w c : ℕ) → Makes 𝓜 s (drop 𝓜 s w c .after)
+  pub drop-makes : (w c : ℕ) → Makes 𝓜 s (made 𝓜 s (drop 𝓜 s w c) .after)
   unfolding drop
   drop-makes w c =
-      after-checked (Makes 𝓜 s) s (dropRefusals 𝓜 s w c) (dropped (cell 𝓜 s w c)) nothing
+      makes-checked 𝓜 s (dropRefusals 𝓜 s w c) (dropped w c (cell 𝓜 s w c) (lowestEmptySlot 𝓜 s))
       (λ p. go (cell 𝓜 s w c) refl (search) (search) (search))
     where
-      dropped : Kind → Result
-      dropped k =
-          cond (isEx k) (record { outcome = Done (lowestEmptySlot 𝓜 s); after = putMessage (putCell 𝓜 s w c Free) (lowestEmptySlot 𝓜 s) (releases k) })
-          (record { outcome = Done 64; after = putCell 𝓜 s w c Free })
-
       go : (k : Kind) → cell 𝓜 s w c ≡ k → isFree (cell 𝓜 s w c) ≡ false → busy 𝓜 s w c ≡ false
-          → (isEx (cell 𝓜 s w c) && leb (𝓜 .slots) (lowestEmptySlot 𝓜 s)) ≡ false → Makes 𝓜 s (dropped k .after)
+          → (isEx (cell 𝓜 s w c) && leb (𝓜 .slots) (lowestEmptySlot 𝓜 s)) ≡ false → Makes 𝓜 s (changed 𝓜 s (dropped w c k (lowestEmptySlot 𝓜 s) .change))
       go Free q nf idle full = absurd-bool (ap isFree q) nf
       go Var q nf idle full = frees-only w c Var q refl idle (λ a b. refl)
       go (Val n) q nf idle full = frees-only w c (Val n) q refl idle (λ a b. refl)

@@ -1,16 +1,35 @@
--- "Where several apply, the lowest is given": `checked` gives the first of a call's refusals that applies, and the refusals of every call
--- stand in the order of their numbers. Assumes nothing.
-use Prim.Native.Nat.{ℕ}
+-- "Where several apply, the lowest is given": `checked` gives the first of a call's refusals that applies, the refusals of every call stand
+-- in the order of precedence, and that of document 01's refusals is the order of their numbers. Assumes nothing.
+use Prim.Native.Nat.{ℕ, _*_}
 use mathlib.Core.Path.{_≡_, refl}
 use mathlib.Core.Bool.{Bool, true, false, cond}
-use mathlib.Core.List.{[], _∷_, _++_}
+use mathlib.Core.List.{_++_}
+use Rattle.tables.specs.declared.Refusal.{Refusal}
+use Rattle.tables.specs.declared.Refusal.the-variants.{WorkerCount, NotSound, NoWorker, ToItself, NoCell, WrongKind, Busy, Unsafe, LastWeight, OverCeiling, NoEntry, NoRoom, NoSlot, NoMessage, NotReady}
 use Rattle.tables.specs.Machine.{Machine, Tables}
-use Rattle.rules.specs.Refusals.{badCount, newRefusals, setRefusals, bindRefusals, sendRefusals, byReferenceRefusals, byLocationRefusals, indirectRefusals, transferRefusals, dropRefusals, readRefusals, askRefusals, deliverRefusals, boundRefusals}
+use Rattle.tables.specs.Parts.{isEx}
+use Rattle.tables.specs.Look.{cell, end, endKind, room}
+use Rattle.rules.specs.Answers.{numberOf, precedence}
+use Rattle.rules.specs.Sound.{sound}
+use Rattle.rules.specs.Refusals.{newRefusals, setRefusals, bindRefusals, sendLines, byReferenceLines, byLocationLines, used, exportRefusals, indirectRefusals, transferRefusals, dropRefusals, readRefusals, askRefusals, deliverRefusals, boundRefusals}
 use Rattle.rules.specs.Order.{inOrderFrom, inOrder}
 
-pub start-in-order : (𝓜 : Machine) (p : ℕ) → inOrder (badCount 𝓜 p ∷ []) ≡ true
-unfolding inOrderFrom
-start-in-order 𝓜 p = refl
+pub by-number : (why : Refusal) → precedence why ≡ 10 * numberOf why
+by-number WorkerCount = refl
+by-number NotSound = refl
+by-number NoWorker = refl
+by-number ToItself = refl
+by-number NoCell = refl
+by-number WrongKind = refl
+by-number Busy = refl
+by-number Unsafe = refl
+by-number LastWeight = refl
+by-number OverCeiling = refl
+by-number NoEntry = refl
+by-number NoRoom = refl
+by-number NoSlot = refl
+by-number NoMessage = refl
+by-number NotReady = refl
 
 module _ (𝓜 : Machine) (s : Tables) where
   pub new-in-order : (w : ℕ) → inOrder (newRefusals 𝓜 s w) ≡ true
@@ -25,12 +44,15 @@ module _ (𝓜 : Machine) (s : Tables) where
   unfolding inOrderFrom
   bind-in-order w c x = refl
 
-  -- by reference and by location
-  pub export-in-order : (ex : Bool) (w c x to : ℕ)
-      → inOrder (sendRefusals 𝓜 s w c to ++ cond ex (byReferenceRefusals 𝓜 s w x to) (byLocationRefusals 𝓜 s w x to)) ≡ true
+  pub export-in-order : (w c to : ℕ) → inOrder (exportRefusals 𝓜 s w c to) ≡ true
   unfolding inOrderFrom
-  export-in-order true w c x to = refl
-  export-in-order false w c x to = refl
+  export-in-order w c to = go (isEx (endKind 𝓜 s w c))
+    where
+      -- by reference and by location
+      go : (ex : Bool)
+          → inOrder (sendLines (sound 𝓜 s) (s .p) w to (cell 𝓜 s w c) ++ cond ex (byReferenceLines 𝓜 (endKind 𝓜 s w c) (room 𝓜 s to)) (byLocationLines 𝓜 (used 𝓜 s w (end 𝓜 s w c)) (room 𝓜 s to))) ≡ true
+      go true = refl
+      go false = refl
 
   pub indirect-in-order : (w c to : ℕ) → inOrder (indirectRefusals 𝓜 s w c to) ≡ true
   unfolding inOrderFrom

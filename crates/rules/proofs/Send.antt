@@ -3,7 +3,7 @@ use Prim.Native.Nat.{ℕ, _+_, _-_, _<_, _≤_}
 use native.Mathlib.Omega.{arith}
 use mathlib.Core.Path.{_≡_, refl, sym, ap, subst, _∙_}
 use mathlib.Core.Bool.{Bool, true, false, _&&_, _||_, not, cond}
-use mathlib.Core.List.{_++_}
+use mathlib.Core.List.{List, _++_}
 use mathlib.Core.Logic.{inl, inr}
 use lib.Dec.{eqb, leb}
 use borrow.Author.Tests.{leb-false, ltb-false, eqb-true}
@@ -17,14 +17,14 @@ use Rattle.tables.specs.declared.Holding.{Holding}
 use Rattle.tables.specs.declared.Holding.the-variants.{Unused, Live}
 use Rattle.tables.specs.declared.Message.{Message}
 use Rattle.tables.specs.declared.Message.the-variants.{Empty, Reference, Read, Ask}
-use Rattle.tables.specs.declared.Outcome.the-variants.{Waiting}
+use Rattle.tables.specs.declared.Effect.{Effect}
 use Rattle.tables.specs.Machine.{Machine, Tables}
-use Rattle.tables.specs.Parts.{onEx, isFree, isVar, isVal, isEx, isAsking, exNames, namedBy, exWeight, endFrom, isLive, isTainted, entryNames, entryWeight, cellOf}
-use Rattle.tables.specs.Look.{cell, entry, end, endKind, safe, entryOf, exported, lowestFreeEntry, lowestEmptySlot, booked, freeCells, message, putCell, putEntry, putMessage}
-use Rattle.rules.specs.Answers.{checked}
-use Rattle.rules.specs.Sound.{varValOrSafe}
-use Rattle.rules.specs.Refusals.{entryToUse, sendRefusals, byReferenceRefusals, byLocationRefusals, indirectRefusals, readSends, readRefusals, askRefusals}
-use Rattle.rules.specs.Calls.{gains, byLocation, keeps, sends, byReference, export, indirect, readAt, read, askEx, ask}
+use Rattle.tables.specs.Parts.{isFree, isVar, isVal, isEx, isAsking, exNames, namedBy, exWeight, endFrom, isLive, isTainted, entryNames, entryWeight, cellOf}
+use Rattle.tables.specs.Look.{cell, entry, end, endKind, safe, entryOf, exported, lowestFreeEntry, lowestEmptySlot, booked, freeCells, message, room, putCell, putEntry, putMessage, changed}
+use Rattle.rules.specs.Answers.{Check, checked, made}
+use Rattle.rules.specs.Sound.{varValOrSafe, sound}
+use Rattle.rules.specs.Refusals.{sendLines, byReferenceLines, byLocationLines, entryToUse, used, indirectRefusals, readSends, readRefusals, askRefusals}
+use Rattle.rules.specs.Calls.{gains, keeps, sends, byLocation, byReference, readAt, askAt, export, indirect, read, ask}
 use Rattle.rules.specs.Machines.{Laws}
 use Rattle.rules.specs.Chains.{ahead}
 use Rattle.rules.specs.Facts.{CellFact, EntryFact, Facts}
@@ -35,7 +35,7 @@ use Rattle.rules.proofs.Derived.{live-fact}
 use Rattle.rules.specs.Move.{next, Makes, nothing}
 use Rattle.rules.proofs.Next.{cell-stored}
 use Rattle.rules.proofs.Moves.{cellMove, entryMove}
-use Rattle.rules.proofs.Steps.{after-checked, not-false, cond-add, free-entry, empty-slot, has-room, room-sent, room-same, makes-ex, makes-entry}
+use Rattle.rules.proofs.Steps.{makes-checked, not-false, cond-add, free-entry, empty-slot, has-room, room-sent, room-same, makes-ex, makes-entry}
 use Rattle.rules.proofs.Local.{worker-used, weight-some}
 use Rattle.rules.proofs.Entries.{entry-next}
 
@@ -79,8 +79,9 @@ module _ (𝓜 : Machine) (L : Laws 𝓜) (s : Tables) (F : Facts 𝓜 s) where
       })
       (inr (0, tt)) (λ t. record { answer-ok = inr tt; known-ok = inl (λ k. k) })
 
-  by-location-makes : (w x to : ℕ) (taint : Bool) → Locates w x to taint → Makes 𝓜 s (byLocation 𝓜 s w x to taint .after)
-  unfolding byLocation entryToUse
+  by-location-makes : (w x to : ℕ) (taint : Bool) → Locates w x to taint 
+      → Makes 𝓜 s (changed 𝓜 s (byLocation 𝓜 w x to taint (used 𝓜 s w x) (lowestEmptySlot 𝓜 s) .change))
+  unfolding entryToUse
   by-location-makes w x to taint l = go (exported 𝓜 s w x) refl (l .has-entry) (l .below)
     where
       k : ℕ
@@ -116,8 +117,8 @@ module _ (𝓜 : Machine) (L : Laws 𝓜) (s : Tables) (F : Facts 𝓜 s) where
 
   -- ---- by reference
   by-reference-makes : (w x to : ℕ) → to < s .p → isEx (cell 𝓜 s w x) ≡ true → leb (exWeight (cell 𝓜 s w x)) 1 ≡ false
-      → booked s to < freeCells 𝓜 s to → leb (𝓜 .slots) (lowestEmptySlot 𝓜 s) ≡ false → Makes 𝓜 s (byReference 𝓜 s w x to .after)
-  unfolding byReference
+      → booked s to < freeCells 𝓜 s to → leb (𝓜 .slots) (lowestEmptySlot 𝓜 s) ≡ false 
+      → Makes 𝓜 s (changed 𝓜 s (byReference 𝓜 w x to (cell 𝓜 s w x) (lowestEmptySlot 𝓜 s) .change))
   by-reference-makes w x to u ex heavy room full =
       let y = the-ex (cell 𝓜 s w x) ex in
       let o = y .owner in
@@ -180,30 +181,40 @@ module _ (𝓜 : Machine) (L : Laws 𝓜) (s : Tables) (F : Facts 𝓜 s) where
           absurd-bool (f .1) (ap isEx at-d)
       go (Ex a b n st z) q t u o = absurd-bool refl u
 
-  pub export-makes : (w c to : ℕ) → Makes 𝓜 s (export 𝓜 s w c to .after)
+  pub export-makes : (w c to : ℕ) → Makes 𝓜 s (made 𝓜 s (export 𝓜 s w c to) .after)
   unfolding export endKind
   export-makes w c to = go (isEx (cell 𝓜 s w (end 𝓜 s w c))) refl
     where
       x : ℕ
       x = end 𝓜 s w c
 
-      go : (b : Bool) → isEx (cell 𝓜 s w (end 𝓜 s w c)) ≡ b
-          → Makes 𝓜 s (checked s (sendRefusals 𝓜 s w c to ++ cond b (byReferenceRefusals 𝓜 s w (end 𝓜 s w c) to) (byLocationRefusals 𝓜 s w (end 𝓜 s w c) to)) (cond b (byReference 𝓜 s w (end 𝓜 s w c) to) (byLocation 𝓜 s w (end 𝓜 s w c) to false)) .after)
+      -- the lines and what is done, by whether the end is an EX
+      lines : Bool → List Check
+      lines b =
+          sendLines (sound 𝓜 s) (s .p) w to (cell 𝓜 s w c)
+          ++ cond b (byReferenceLines 𝓜 (cell 𝓜 s w (end 𝓜 s w c)) (room 𝓜 s to)) (byLocationLines 𝓜 (used 𝓜 s w (end 𝓜 s w c)) (room 𝓜 s to))
+
+      does : Bool → Effect
+      does b =
+          cond b (byReference 𝓜 w (end 𝓜 s w c) to (cell 𝓜 s w (end 𝓜 s w c)) (lowestEmptySlot 𝓜 s))
+          (byLocation 𝓜 w (end 𝓜 s w c) to false (used 𝓜 s w (end 𝓜 s w c)) (lowestEmptySlot 𝓜 s))
+
+      go : (b : Bool) → isEx (cell 𝓜 s w (end 𝓜 s w c)) ≡ b → Makes 𝓜 s (changed 𝓜 s (checked (lines b) (does b) .change))
       go true ex =
-          after-checked (Makes 𝓜 s) s (sendRefusals 𝓜 s w c to ++ byReferenceRefusals 𝓜 s w (end 𝓜 s w c) to) (byReference 𝓜 s w (end 𝓜 s w c) to) nothing
+          makes-checked 𝓜 s (lines true) (does true)
           (λ p. by-reference-makes w (end 𝓜 s w c) to (worker-used 𝓜 L s F to (search) .0) ex (search) (has-room 𝓜 L s F to (search)) (search))
       go false ne =
-          after-checked (Makes 𝓜 s) s (sendRefusals 𝓜 s w c to ++ byLocationRefusals 𝓜 s w (end 𝓜 s w c) to) (byLocation 𝓜 s w (end 𝓜 s w c) to false) nothing
+          makes-checked 𝓜 s (lines false) (does false)
           (λ p.
           let own = end-not-ref w c (search) in
           by-location-makes w (end 𝓜 s w c) to false (record { w-in = worker-used 𝓜 L s F w (search) .1; to-used = worker-used 𝓜 L s F to (search) .0; not-free = own .0; own-end = own .1; good = λ u. plain-end w (end 𝓜 s w c) (own .0) ne (own .1); below = ltb-false (𝓜 .ceiling) (entryWeight (entry 𝓜 s w (entryToUse 𝓜 s w (end 𝓜 s w c))) + 𝓜 .firstWeight) (search); has-entry = search; room = has-room 𝓜 L s F to (search); slot = search }))
 
-  pub indirect-makes : (w c to : ℕ) → Makes 𝓜 s (indirect 𝓜 s w c to .after)
+  pub indirect-makes : (w c to : ℕ) → Makes 𝓜 s (made 𝓜 s (indirect 𝓜 s w c to) .after)
   unfolding indirect endKind
   indirect-makes w c to =
       let x = end 𝓜 s w c in
       let taint = not (safe 𝓜 s w (cell 𝓜 s w x)) in
-      after-checked (Makes 𝓜 s) s (indirectRefusals 𝓜 s w c to) (byLocation 𝓜 s w x to taint) nothing
+      makes-checked 𝓜 s (indirectRefusals 𝓜 s w c to) (byLocation 𝓜 w x to taint (used 𝓜 s w x) (lowestEmptySlot 𝓜 s))
       (λ p.
       let own = end-not-ref w c (search) in
       by-location-makes w x to taint (record { w-in = worker-used 𝓜 L s F w (search) .1; to-used = worker-used 𝓜 L s F to (search) .0; not-free = own .0; own-end = own .1; good = λ u. or-r (isVar (cell 𝓜 s w x) || isVal (cell 𝓜 s w x)) (not-false u); below = ltb-false (𝓜 .ceiling) (entryWeight (entry 𝓜 s w (entryToUse 𝓜 s w x)) + 𝓜 .firstWeight) (search); has-entry = search; room = has-room 𝓜 L s F to (search); slot = search }))
@@ -243,17 +254,17 @@ module _ (𝓜 : Machine) (L : Laws 𝓜) (s : Tables) (F : Facts 𝓜 s) where
       })
       (inr (0, ap namedBy (here-named w x o e n n Idle Reading a a k (Read w x o e) (slot .0) (slot .1) q))) (λ t. record { answer-ok = inr tt; known-ok = inr tt })
 
-  pub read-makes : (w c : ℕ) → Makes 𝓜 s (read 𝓜 s w c .after)
+  pub read-makes : (w c : ℕ) → Makes 𝓜 s (made 𝓜 s (read 𝓜 s w c) .after)
   unfolding read endKind
   read-makes w c =
-      after-checked (Makes 𝓜 s) s (readRefusals 𝓜 s w c) (readAt 𝓜 s w (end 𝓜 s w c) (cell 𝓜 s w (end 𝓜 s w c))) nothing
+      makes-checked 𝓜 s (readRefusals 𝓜 s w c) (readAt w (end 𝓜 s w c) (cell 𝓜 s w (end 𝓜 s w c)) (lowestEmptySlot 𝓜 s))
       (λ p. go (cell 𝓜 s w (end 𝓜 s w c)) refl (search))
     where
       x : ℕ
       x = end 𝓜 s w c
 
-      go : (k : Kind) → cell 𝓜 s w (end 𝓜 s w c) ≡ k → (onEx false (λ o e n st a. readSends st) k && leb (𝓜 .slots) (lowestEmptySlot 𝓜 s)) ≡ false
-          → Makes 𝓜 s (readAt 𝓜 s w (end 𝓜 s w c) k .after)
+      go : (k : Kind) → cell 𝓜 s w (end 𝓜 s w c) ≡ k → (readSends k && leb (𝓜 .slots) (lowestEmptySlot 𝓜 s)) ≡ false
+          → Makes 𝓜 s (changed 𝓜 s (readAt w (end 𝓜 s w c) k (lowestEmptySlot 𝓜 s) .change))
       go Free q t = nothing
       go Var q t = nothing
       go (Val n) q t = nothing
@@ -282,14 +293,14 @@ module _ (𝓜 : Machine) (L : Laws 𝓜) (s : Tables) (F : Facts 𝓜 s) where
       })
       (inr (0, tt)) (λ t. record { answer-ok = inr tt; known-ok = inl (λ k. k) })
 
-  pub ask-makes : (w c : ℕ) → Makes 𝓜 s (ask 𝓜 s w c .after)
+  pub ask-makes : (w c : ℕ) → Makes 𝓜 s (made 𝓜 s (ask 𝓜 s w c) .after)
   unfolding ask endKind
   ask-makes w c =
-      after-checked (Makes 𝓜 s) s (askRefusals 𝓜 s w c) (onEx (record { outcome = Waiting; after = s }) (askEx 𝓜 s w (end 𝓜 s w c)) (cell 𝓜 s w (end 𝓜 s w c))) nothing
+      makes-checked 𝓜 s (askRefusals 𝓜 s w c) (askAt w (end 𝓜 s w c) (cell 𝓜 s w (end 𝓜 s w c)) (lowestEmptySlot 𝓜 s))
       (λ p. go (cell 𝓜 s w (end 𝓜 s w c)) refl (search))
     where
       go : (k : Kind) → cell 𝓜 s w (end 𝓜 s w c) ≡ k → (not (isAsking k) && leb (𝓜 .slots) (lowestEmptySlot 𝓜 s)) ≡ false
-          → Makes 𝓜 s (onEx (record { outcome = Waiting; after = s }) (askEx 𝓜 s w (end 𝓜 s w c)) k .after)
+          → Makes 𝓜 s (changed 𝓜 s (askAt w (end 𝓜 s w c) k (lowestEmptySlot 𝓜 s) .change))
       go Free q t = nothing
       go Var q t = nothing
       go (Val n) q t = nothing

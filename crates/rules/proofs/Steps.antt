@@ -17,17 +17,18 @@ use Rattle.tables.specs.declared.Holding.{Holding}
 use Rattle.tables.specs.declared.Holding.the-variants.{Unused, Live}
 use Rattle.tables.specs.declared.Message.{Message}
 use Rattle.tables.specs.declared.Message.the-variants.{Empty, Reference, Release, Read, Answer, Ask, Supply}
+use Rattle.tables.specs.declared.Effect.{Effect}
 use Rattle.tables.specs.Machine.{Machine, Tables}
 use Rattle.tables.specs.Parts.{isFree, isVar, isEx, isReading, isAsking, isUnused, isEmpty, goesTo}
-use Rattle.tables.specs.Look.{cell, entry, entryOf, exported, referred, busy, lowestFreeCell, lowestFreeEntry, lowestEmptySlot, booked, freeCells, message, putCell, putEntry, putMessage}
-use Rattle.rules.specs.Answers.{Check, _when_, Result, refuse, checked}
+use Rattle.tables.specs.Look.{cell, entry, entryOf, exported, referred, busy, lowestFreeCell, lowestFreeEntry, lowestEmptySlot, booked, freeCells, message, putCell, putEntry, putMessage, changed}
+use Rattle.rules.specs.Answers.{Check, _when_, refuse, checked}
 use Rattle.rules.specs.Machines.{Laws}
 use Rattle.rules.specs.Facts.{CellFact, Facts}
 use Rattle.rules.proofs.Inside.{cell-inside}
 use Rattle.rules.proofs.Named.{the-entry-of}
 use Rattle.rules.proofs.Busy.{own-entry, naming-ref, not-busy}
 use Rattle.rules.proofs.Derived.{bit-one, live-fact}
-use Rattle.rules.specs.Move.{ReadsOn, TrueValues, Carries, Makes, moved}
+use Rattle.rules.specs.Move.{ReadsOn, TrueValues, Carries, Makes, nothing, moved}
 use Rattle.rules.proofs.Moves.{cellMove, entryMove, put-cell-message, put-cell, put-entry-message, CellMoves, cell-keeps, ExMoves, ex-keeps, EntryMoves, entry-keeps}
 
 -- ---- refusals passed: none of the tests hit
@@ -36,13 +37,15 @@ Passed [] = Unit {0}
 Passed ((why when hit) ∷ l) = (hit ≡ false) × Passed l
 
 -- a refused call leaves the state as it came
-pub after-checked : (P : Tables → Type 0) (s : Tables) (l : List Check) (r : Result) → P s → (Passed l → P (r .after)) → P (checked s l r .after)
+pub makes-checked : (𝓜 : Machine) (s : Tables) (l : List Check) (d : Effect) → (Passed l → Makes 𝓜 s (changed 𝓜 s (d .change)))
+    → Makes 𝓜 s (changed 𝓜 s (checked l d .change))
 unfolding checked
-after-checked P s [] r old new = new tt
-after-checked P s ((why when hit) ∷ l) r old new = go hit refl (after-checked P s l r old)
+makes-checked 𝓜 s [] d new = new tt
+makes-checked 𝓜 s ((why when hit) ∷ l) d new = go hit refl (makes-checked 𝓜 s l d)
   where
-    go : (b : Bool) → hit ≡ b → ((Passed l → P (r .after)) → P (checked s l r .after)) → P (refuse b why s (checked s l r) .after)
-    go true e rest = old
+    go : (b : Bool) → hit ≡ b → ((Passed l → Makes 𝓜 s (changed 𝓜 s (d .change))) → Makes 𝓜 s (changed 𝓜 s (checked l d .change)))
+        → Makes 𝓜 s (changed 𝓜 s (refuse b why (checked l d) .change))
+    go true e rest = nothing
     go false e rest = rest (λ p. new (e, p))
 
 -- the tests of two lists, one after the other

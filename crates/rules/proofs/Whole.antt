@@ -23,10 +23,11 @@ use Rattle.tables.specs.declared.Place.the-variants.{At}
 use Rattle.tables.specs.declared.Outcome.the-variants.{Done}
 use Rattle.tables.specs.declared.Call.{Call}
 use Rattle.tables.specs.declared.Call.the-variants.{Start, New, Set, Bind, Export, Indirect, Transfer, Drop, ReadCell, AskWeight, Deliver, Bound}
+use Rattle.tables.specs.declared.Effect.{Effect}
 use Rattle.tables.specs.Machine.{Machine, Tables}
 use Rattle.tables.specs.Parts.{isVar, isReading, namedBy, isLive, cellOf, entryWeight, isEmpty}
-use Rattle.tables.specs.Look.{cell, entry, message}
-use Rattle.rules.specs.Answers.{Result, succeeds, checked}
+use Rattle.tables.specs.Look.{cell, entry, message, changed}
+use Rattle.rules.specs.Answers.{answered, made, succeeds, checked}
 use Rattle.rules.specs.Sound.{readsFor, readsOf, held, sound}
 use Rattle.rules.specs.Chains.{entryEnd, ahead, EndsIn}
 use Rattle.rules.specs.Refusals.{ready, boundRefusals}
@@ -46,7 +47,7 @@ use Rattle.rules.proofs.Measure.{measure, measure-bound, StatusOn, Kind
 use Rattle.rules.proofs.Stays.{facts-made, invariant-made}
 use Rattle.rules.proofs.Ends.{own-context}
 use Rattle.rules.proofs.Context.{message-live, context-made}
-use Rattle.rules.proofs.Steps.{after-checked}
+use Rattle.rules.proofs.Steps.{makes-checked}
 use Rattle.rules.proofs.Local.{new-makes, set-makes, bind-makes, transfer-makes, drop-makes}
 use Rattle.rules.proofs.Send.{export-makes, indirect-makes, read-makes, ask-makes}
 use Rattle.rules.proofs.Arrive.{message-arrives, deliver-makes}
@@ -65,14 +66,14 @@ module _ (𝓜 : Machine) where
   reached-drained : (s : Tables) (ks : List ℕ) → Reached 𝓜 s → Reached 𝓜 (drained 𝓜 s ks)
   unfolding drained step
   reached-drained s [] r = r
-  reached-drained s (k ∷ ks) r = reached-drained (deliver 𝓜 s k .after) ks (after r (Deliver k) refl)
+  reached-drained s (k ∷ ks) r = reached-drained (made 𝓜 s (deliver 𝓜 s k) .after) ks (after r (Deliver k) refl)
 
 module _ (𝓜 : Machine) (L : Laws 𝓜) where
   -- ---- every call makes nothing, or a move; so the invariant holds of every reached state
-  bound-makes : (s : Tables) → Makes 𝓜 s (bound 𝓜 s .after)
+  bound-makes : (s : Tables) → Makes 𝓜 s (made 𝓜 s (bound 𝓜 s) .after)
   unfolding bound
   bound-makes s =
-      after-checked (Makes 𝓜 s) s (boundRefusals 𝓜 s) (record { outcome = Done (B 𝓜 s); after = s }) nothing (λ p. nothing)
+      makes-checked 𝓜 s (boundRefusals 𝓜 s) (answered (Done (B 𝓜 s))) (λ p. nothing)
 
   step-makes : (s : Tables) → Facts 𝓜 s → Reads 𝓜 s → (q : Call) → isStart q ≡ false → Makes 𝓜 s (step 𝓜 s q .after)
   unfolding step
@@ -162,7 +163,7 @@ module _ (𝓜 : Machine) (L : Laws 𝓜) where
   message-done s k (Supply a c w) = refl
 
   pub data Delivery (s : Tables) (k : ℕ) : Type 0 where
-    refused : holdsReady 𝓜 s k ≡ false → delivers 𝓜 s k ≡ false → deliver 𝓜 s k .after ≡ s → Delivery s k
+    refused : holdsReady 𝓜 s k ≡ false → delivers 𝓜 s k ≡ false → made 𝓜 s (deliver 𝓜 s k) .after ≡ s → Delivery s k
     arrives : isEmpty (message s k) ≡ false → ready 𝓜 s (message s k) ≡ true → deliver 𝓜 s k ≡ deliverMessage 𝓜 s k (message s k) → Delivery s k
 
   delivery : (s : Tables) → Invariant 𝓜 s → (k : ℕ) → Delivery s k
@@ -182,7 +183,7 @@ module _ (𝓜 : Machine) (L : Laws 𝓜) where
     where
       go : Delivery s k → delivers 𝓜 s k ≡ holdsReady 𝓜 s k
       go (refused a b c) = b ∙ sym a
-      go (arrives a b c) = ap (λ (x : Result). succeeds (x .outcome)) c ∙ message-done s k (message s k) ∙ sym (ready-true s k a b)
+      go (arrives a b c) = ap (λ (x : Effect). succeeds (x .outcome)) c ∙ message-done s k (message s k) ∙ sym (ready-true s k a b)
 
   -- ---- deliveries in any order: each that succeeds lowers the measure
   few-succeed : (s : Tables) (I : Invariant 𝓜 s) (r : ℕ → ℕ → ℕ) → Ranked 𝓜 s r → (ks : List ℕ) → successes 𝓜 s ks ≤ measure 𝓜 s r
@@ -191,15 +192,15 @@ module _ (𝓜 : Machine) (L : Laws 𝓜) where
   few-succeed s I r R (k ∷ ks) = go (delivery s I k) (λ t J Q. few-succeed t J r Q ks)
     where
       go : Delivery s k → ((t : Tables) → Invariant 𝓜 t → Ranked 𝓜 t r → successes 𝓜 t ks ≤ measure 𝓜 t r)
-          → bit (delivers 𝓜 s k) + successes 𝓜 (deliver 𝓜 s k .after) ks ≤ measure 𝓜 s r
+          → bit (delivers 𝓜 s k) + successes 𝓜 (made 𝓜 s (deliver 𝓜 s k) .after) ks ≤ measure 𝓜 s r
       go (refused a b c) rec =
-          let rest : successes 𝓜 (deliver 𝓜 s k .after) ks ≤ measure 𝓜 s r = subst (λ (t : Tables). successes 𝓜 t ks ≤ measure 𝓜 s r) (sym c) (rec s I R) in
+          let rest : successes 𝓜 (made 𝓜 s (deliver 𝓜 s k) .after) ks ≤ measure 𝓜 s r = subst (λ (t : Tables). successes 𝓜 t ks ≤ measure 𝓜 s r) (sym c) (rec s I R) in
           omega (arith, ap bit b)
       go (arrives a b c) rec =
-          let x = arrived 𝓜 L s I r R (deliverMessage 𝓜 s k (message s k) .after) (message-arrives 𝓜 L s (I .facts) (I .reads) k (message s k) refl a b) in
-          let next = deliverMessage 𝓜 s k (message s k) .after in
-          let same : deliver 𝓜 s k .after ≡ next = ap (λ (y : Result). y .after) c in
-          let rest : successes 𝓜 (deliver 𝓜 s k .after) ks ≤ measure 𝓜 next r = subst (λ (t : Tables). successes 𝓜 t ks ≤ measure 𝓜 next r) (sym same) (rec next (x .invariant) (x .ranked)) in
+          let x = arrived 𝓜 L s I r R (made 𝓜 s (deliverMessage 𝓜 s k (message s k)) .after) (message-arrives 𝓜 L s (I .facts) (I .reads) k (message s k) refl a b) in
+          let next = made 𝓜 s (deliverMessage 𝓜 s k (message s k)) .after in
+          let same : made 𝓜 s (deliver 𝓜 s k) .after ≡ next = ap (λ (y : Effect). changed 𝓜 s (y .change)) c in
+          let rest : successes 𝓜 (made 𝓜 s (deliver 𝓜 s k) .after) ks ≤ measure 𝓜 next r = subst (λ (t : Tables). successes 𝓜 t ks ≤ measure 𝓜 next r) (sym same) (rec next (x .invariant) (x .ranked)) in
           omega (arith, x .lower, bit-le (delivers 𝓜 s k))
         where
           bit-le : (z : Bool) → bit z ≤ 1
@@ -220,7 +221,7 @@ module _ (𝓜 : Machine) (L : Laws 𝓜) where
       go : AtRest 𝓜 s ⊎ (holdsReady 𝓜 s (slot 0) ≡ true) → Delivery s (slot 0) → (i : ℕ) × (i ≤ 0) × AtRest 𝓜 (drained 𝓜 s (slotsTaken 𝓜 slot i))
       go (inl rest) d = (0, omega arith, rest)
       go (inr is-ready) (refused a b c) = absurd-bool is-ready a
-      go (inr is-ready) (arrives a b c) = absurd (omega (arith, arrived 𝓜 L s I r R (deliverMessage 𝓜 s (slot 0) (message s (slot 0)) .after) (message-arrives 𝓜 L s (I .facts) (I .reads) (slot 0) (message s (slot 0)) refl a b) .lower))
+      go (inr is-ready) (arrives a b c) = absurd (omega (arith, arrived 𝓜 L s I r R (made 𝓜 s (deliverMessage 𝓜 s (slot 0) (message s (slot 0))) .after) (message-arrives 𝓜 L s (I .facts) (I .reads) (slot 0) (message s (slot 0)) refl a b) .lower))
   rest-within (suc n) s I r R few slot takes =
       go (takes 0) (delivery s I (slot 0)) (λ t J Q less sl tk. rest-within n t J r Q less sl tk)
     where
@@ -233,9 +234,9 @@ module _ (𝓜 : Machine) (L : Laws 𝓜) where
       go (inl rest) d rec = (0, omega arith, rest)
       go (inr is-ready) (refused a b c) rec = absurd-bool is-ready a
       go (inr is-ready) (arrives a b c) rec =
-          let x = arrived 𝓜 L s I r R (deliverMessage 𝓜 s (slot 0) (message s (slot 0)) .after) (message-arrives 𝓜 L s (I .facts) (I .reads) (slot 0) (message s (slot 0)) refl a b) in
-          let same : deliver 𝓜 s (slot 0) .after ≡ deliverMessage 𝓜 s (slot 0) (message s (slot 0)) .after = ap (λ (y : Result). y .after) c in
-          let t = deliver 𝓜 s (slot 0) .after in
+          let x = arrived 𝓜 L s I r R (made 𝓜 s (deliverMessage 𝓜 s (slot 0) (message s (slot 0))) .after) (message-arrives 𝓜 L s (I .facts) (I .reads) (slot 0) (message s (slot 0)) refl a b) in
+          let same : made 𝓜 s (deliver 𝓜 s (slot 0)) .after ≡ made 𝓜 s (deliverMessage 𝓜 s (slot 0) (message s (slot 0))) .after = ap (λ (y : Effect). changed 𝓜 s (y .change)) c in
+          let t = made 𝓜 s (deliver 𝓜 s (slot 0)) .after in
           let y = rec t (subst (Invariant 𝓜) (sym same) (x .invariant)) (subst (λ (z : Tables). Ranked 𝓜 z r) (sym same) (x .ranked)) (omega (arith, x .lower, ap (λ (z : Tables). measure 𝓜 z r) same)) later (λ i. takes (suc i)) in
           (suc (y .0), omega (arith, y .1), y .2)
 
@@ -301,12 +302,12 @@ module _ (𝓜 : Machine) (L : Laws 𝓜) where
   told-drained s (k ∷ ks) w c o e v I t = go (delivery s I k) (λ y J u. told-drained y ks w c o e v J u)
     where
       go : Delivery s k → ((y : Tables) → Invariant 𝓜 y → Told y w c o e v → Told (drained 𝓜 y ks) w c o e v)
-          → Told (drained 𝓜 (deliver 𝓜 s k .after) ks) w c o e v
+          → Told (drained 𝓜 (made 𝓜 s (deliver 𝓜 s k) .after) ks) w c o e v
       go (refused a b q) rec = subst (λ (y : Tables). Told (drained 𝓜 y ks) w c o e v) (sym q) (rec s I t)
       go (arrives a b q) rec =
-          let x = arrived 𝓜 L s I (I .rank) (I .ranked) (deliverMessage 𝓜 s k (message s k) .after) (message-arrives 𝓜 L s (I .facts) (I .reads) k (message s k) refl a b) in
-          let next = deliverMessage 𝓜 s k (message s k) .after in
-          subst (λ (y : Tables). Told (drained 𝓜 y ks) w c o e v) (sym (ap (λ (y : Result). y .after) q))
+          let x = arrived 𝓜 L s I (I .rank) (I .ranked) (made 𝓜 s (deliverMessage 𝓜 s k (message s k)) .after) (message-arrives 𝓜 L s (I .facts) (I .reads) k (message s k) refl a b) in
+          let next = made 𝓜 s (deliverMessage 𝓜 s k (message s k)) .after in
+          subst (λ (y : Tables). Told (drained 𝓜 y ks) w c o e v) (sym (ap (λ (y : Effect). changed 𝓜 s (y .change)) q))
           (rec next (x .invariant) (told-next s next (I .rank) w c o e v x t))
 
   -- at rest nobody on such a chain is still reading

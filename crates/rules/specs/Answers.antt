@@ -1,4 +1,4 @@
--- What a call gives: its answer and the next state; document 01's number of each refusal, code and value of each answer. Assumes nothing.
+-- What a call gives: its answer and what it changes; document 01's number of each refusal, code and value of each answer. Assumes nothing.
 use Prim.Native.Nat.{ℕ}
 use mathlib.Core.Bool.{Bool, true, false}
 use mathlib.Core.List.{List, [], _∷_}
@@ -6,8 +6,12 @@ use Rattle.tables.specs.declared.Refusal.{Refusal}
 use Rattle.tables.specs.declared.Refusal.the-variants.{WorkerCount, NotSound, NoWorker, ToItself, NoCell, WrongKind, Busy, Unsafe, LastWeight, OverCeiling, NoEntry, NoRoom, NoSlot, NoMessage, NotReady}
 use Rattle.tables.specs.declared.Outcome.{Outcome}
 use Rattle.tables.specs.declared.Outcome.the-variants.{Done, Sent, Waiting, Unbound, Refused}
+use Rattle.tables.specs.declared.Change.{Change}
+use Rattle.tables.specs.declared.Change.the-variants.{Nothing}
+use Rattle.tables.specs.declared.Effect.{Effect}
 use Rattle.tables.specs.declared.Reply.{Reply}
-use Rattle.tables.specs.Machine.{Tables, state}
+use Rattle.tables.specs.Machine.{Machine, Tables, state}
+use Rattle.tables.specs.Look.{changed}
 
 -- the number of a refusal
 abbrev pub numberOf : Refusal → ℕ
@@ -26,6 +30,25 @@ numberOf NoRoom = 12
 numberOf NoSlot = 13
 numberOf NoMessage = 14
 numberOf NotReady = 15
+
+-- Where several apply, the one of the lowest precedence is given. So far it is the order of the numbers; a later number says what it stands
+-- after and before.
+abbrev pub precedence : Refusal → ℕ
+precedence WorkerCount = 10
+precedence NotSound = 20
+precedence NoWorker = 30
+precedence ToItself = 40
+precedence NoCell = 50
+precedence WrongKind = 60
+precedence Busy = 70
+precedence Unsafe = 80
+precedence LastWeight = 90
+precedence OverCeiling = 100
+precedence NoEntry = 110
+precedence NoRoom = 120
+precedence NoSlot = 130
+precedence NoMessage = 140
+precedence NotReady = 150
 
 -- "code (00 done, 01 to 0f refused, by number, .., 40 Sent, 41 Waiting, 42 Unbound ..) and value"
 abbrev pub codeOf : Outcome → ℕ
@@ -51,10 +74,24 @@ succeeds Waiting = true
 succeeds Unbound = true
 succeeds (Refused why) = false
 
+-- done with this value, sent with this slot, or answered without a change; and what is changed
+abbrev pub done : ℕ → Change → Effect
+done v d = record { outcome = Done v; change = d }
+
+abbrev pub sent : ℕ → Change → Effect
+sent k d = record { outcome = Sent k; change = d }
+
+abbrev pub answered : Outcome → Effect
+answered o = record { outcome = o; change = Nothing }
+
 -- a call's answer, and the next state
 pub record Result : Type 0 where
   pub outcome : Outcome
   pub after : Tables
+
+-- what a call does, in these tables
+abbrev pub made : Machine → Tables → Effect → Result
+made 𝓜 s d = record { outcome = d .outcome; after = changed 𝓜 s (d .change) }
 
 -- as the code hands it back
 abbrev pub reply : Result → Reply
@@ -67,11 +104,13 @@ pub data Check : Type 0 where
   _when_ : Refusal → Bool → Check
 
 infix 5 _when_
-abbrev pub refuse : Bool → Refusal → Tables → Result → Result
-refuse true why s r = record { outcome = Refused why; after = s }
-refuse false why s r = r
 
--- "Where several apply, the lowest is given": the first of the list, which is in the order of the numbers. s is what a refusal returns.
-unfoldable pub checked : Tables → List Check → Result → Result
-checked s [] r = r
-checked s ((why when hit) ∷ l) r = refuse hit why s (checked s l r)
+-- "All but 1 return the state as it came": a refusal changes nothing
+abbrev pub refuse : Bool → Refusal → Effect → Effect
+refuse true why d = answered (Refused why)
+refuse false why d = d
+
+-- "Where several apply, the lowest is given": the first of the list, which is in the order of precedence
+unfoldable pub checked : List Check → Effect → Effect
+checked [] d = d
+checked ((why when hit) ∷ l) d = refuse hit why (checked l d)

@@ -1,7 +1,6 @@
--- "Calls": what each gives, but for deliver. A call is its refusals in order, and else its answer and next state. Assumes nothing.
+-- "Calls": what each does, but for deliver. A call is its refusals in order, and else its answer and what it changes. Assumes nothing.
 use Prim.Native.Nat.{ℕ, _+_, _-_, _*_}
 use mathlib.Core.Bool.{Bool, true, false, not, cond}
-use mathlib.Core.List.{[], _∷_, _++_}
 use lib.ListN.{replicate}
 use Rattle.numbers.specs.Lists.{total}
 use Rattle.tables.specs.declared.Status.{Status}
@@ -12,12 +11,16 @@ use Rattle.tables.specs.declared.Holding.{Holding}
 use Rattle.tables.specs.declared.Holding.the-variants.{Unused, Live}
 use Rattle.tables.specs.declared.Message.{Message}
 use Rattle.tables.specs.declared.Message.the-variants.{Empty, Reference, Release, Read, Answer, Ask, Supply}
-use Rattle.tables.specs.declared.Outcome.the-variants.{Done, Sent, Waiting, Unbound}
+use Rattle.tables.specs.declared.Refusal.the-variants.{WorkerCount}
+use Rattle.tables.specs.declared.Outcome.the-variants.{Done, Waiting, Unbound, Refused}
+use Rattle.tables.specs.declared.Change.the-variants.{OfCell, OfCellAndSlot, OfEntryAndSlot}
+use Rattle.tables.specs.declared.Effect.{Effect}
+use Rattle.tables.specs.declared.Used.{Used}
 use Rattle.tables.specs.Machine.{Machine, Tables}
-use Rattle.tables.specs.Parts.{onEx, isEx}
-use Rattle.tables.specs.Look.{cell, entry, end, endKind, safe, lowestFreeCell, lowestEmptySlot, liveEntries, putCell, putEntry, putMessage}
-use Rattle.rules.specs.Answers.{Result, checked}
-use Rattle.rules.specs.Refusals.{badCount, entryToUse, newRefusals, setRefusals, bindRefusals, sendRefusals, byReferenceRefusals, byLocationRefusals, indirectRefusals, transferRefusals, dropRefusals, readRefusals, askRefusals, boundRefusals}
+use Rattle.tables.specs.Parts.{onVal, onEx, isEx}
+use Rattle.tables.specs.Look.{cell, end, endKind, safe, lowestFreeCell, lowestEmptySlot, liveEntries}
+use Rattle.rules.specs.Answers.{Result, done, sent, answered, checked}
+use Rattle.rules.specs.Refusals.{badCount, used, newRefusals, setRefusals, bindRefusals, exportRefusals, indirectRefusals, transferRefusals, dropRefusals, readRefusals, askRefusals, boundRefusals}
 
 -- P workers, everything free
 unfoldable pub allFree : Machine → ℕ → Tables
@@ -35,7 +38,8 @@ closed 𝓜 = allFree 𝓜 0
 
 -- "start(P): all free. Value 0." Refused it returns the closed state.
 unfoldable pub start : Machine → ℕ → Result
-start 𝓜 p = checked (closed 𝓜) (badCount 𝓜 p ∷ []) (record { outcome = Done 0; after = allFree 𝓜 p })
+start 𝓜 p =
+    cond (badCount 𝓜 p) (record { outcome = Refused WorkerCount; after = closed 𝓜 }) (record { outcome = Done 0; after = allFree 𝓜 p })
 
 -- ---- what the calls make of one part
 
@@ -69,95 +73,92 @@ costs E (Answer r c n) = 1
 costs E (Ask a c o e) = 2
 costs E (Supply a c n) = 1
 
+-- ---- what the calls do, over what they have looked up: slot is the lowest empty one
+
+-- by location, the cell x itself, with the entry u: "gains 1,024; a Reference of 1,024 is sent"
+abbrev pub byLocation : Machine → ℕ → ℕ → ℕ → Bool → Used → ℕ → Effect
+byLocation 𝓜 w x to taint u slot =
+    done slot (OfEntryAndSlot w (u .number) (gains (𝓜 .firstWeight) x taint (u .holding)) slot (Reference to w (u .number) (𝓜 .firstWeight)))
+
+-- "by reference. Half its weight, rounded down, is sent; the rest stays."
+abbrev pub byReference : Machine → ℕ → ℕ → ℕ → Kind → ℕ → Effect
+byReference 𝓜 w x to ex slot = done slot (OfCellAndSlot w x (keeps 𝓜 ex) slot (sends 𝓜 to ex))
+
+-- "end VAR or VAL: by location .. untainted .. End EX: by reference"; x is the end, and holds k
+abbrev pub exportEnd : Machine → ℕ → ℕ → ℕ → Kind → Used → ℕ → Effect
+exportEnd 𝓜 w x to k u slot = cond (isEx k) (byReference 𝓜 w x to k slot) (byLocation 𝓜 w x to false u slot)
+
+-- the EX of the cell c "is freed and its whole weight sent as a Reference"
+abbrev pub transferred : ℕ → ℕ → ℕ → Kind → ℕ → Effect
+transferred w c to ex slot = done slot (OfCellAndSlot w c Free slot (sendsWhole to ex))
+
+-- "freed. An EX sends its whole weight as Release, value the slot; any other kind: value 64."
+abbrev pub dropped : ℕ → ℕ → Kind → ℕ → Effect
+dropped w c k slot = cond (isEx k) (done slot (OfCellAndSlot w c Free slot (releases k))) (done 64 (OfCell w c Free))
+
+-- at the end x: "VAL or known: done, value n. VAR: Unbound. Reading: Waiting. Else a Read is sent and the EX is reading: Sent, value the slot."
+-- An end is no free cell and no REF in a sound state.
+abbrev pub readEx : ℕ → ℕ → ℕ → ℕ → ℕ → ℕ → Status → Bool → Effect
+readEx w x slot o e n Idle a = sent slot (OfCellAndSlot w x (Ex o e n Reading a) slot (Read w x o e))
+readEx w x slot o e n Reading a = answered Waiting
+readEx w x slot o e n (Known v) a = answered (Done v)
+
+abbrev pub readAt : ℕ → ℕ → Kind → ℕ → Effect
+readAt w x k slot = onEx (onVal (answered Unbound) (λ n. answered (Done n)) k) (readEx w x slot) k
+
+-- "Asking already: Waiting. Else Ask is sent: Sent, value the slot." The EX is then asking.
+abbrev pub askEx : ℕ → ℕ → ℕ → ℕ → ℕ → ℕ → Status → Bool → Effect
+askEx w x slot o e n st true = answered Waiting
+askEx w x slot o e n st false = sent slot (OfCellAndSlot w x (Ex o e n st true) slot (Ask w x o e))
+
+abbrev pub askAt : ℕ → ℕ → Kind → ℕ → Effect
+askAt w x k slot = onEx (answered Waiting) (askEx w x slot) k
+
+-- ---- the calls
+
 module _ (𝓜 : Machine) (s : Tables) where
   -- "new(w): lowest free cell becomes VAR. Value: cell."
-  unfoldable pub new : ℕ → Result
+  unfoldable pub new : ℕ → Effect
   new w =
       let c = lowestFreeCell 𝓜 s w in
-      checked s (newRefusals 𝓜 s w) (record { outcome = Done c; after = putCell 𝓜 s w c Var })
+      checked (newRefusals 𝓜 s w) (done c (OfCell w c Var))
 
   -- "set(w, c, n): VAR becomes VAL(n)."
-  unfoldable pub set : ℕ → ℕ → ℕ → Result
-  set w c n = checked s (setRefusals 𝓜 s w c) (record { outcome = Done 0; after = putCell 𝓜 s w c (Val n) })
+  unfoldable pub set : ℕ → ℕ → ℕ → Effect
+  set w c n = checked (setRefusals 𝓜 s w c) (done 0 (OfCell w c (Val n)))
 
   -- "bind(w, c, x): c is a VAR, the end of x an EX; c becomes a REF to that end."
-  unfoldable pub bind : ℕ → ℕ → ℕ → Result
-  bind w c x =
-      checked s (bindRefusals 𝓜 s w c x) (record { outcome = Done 0; after = putCell 𝓜 s w c (Ref (end 𝓜 s w x)) })
+  unfoldable pub bind : ℕ → ℕ → ℕ → Effect
+  bind w c x = checked (bindRefusals 𝓜 s w c x) (done 0 (OfCell w c (Ref (end 𝓜 s w x))))
 
-  -- a message put into the lowest empty slot, from the tables t; the slot's number is the value
-  abbrev pub sent : Tables → Message → Result
-  sent t m =
-      let k = lowestEmptySlot 𝓜 s in
-      record { outcome = Done k; after = putMessage t k m }
-
-  -- by location, the cell x itself: "a Reference of 1,024 is sent"
-  unfoldable pub byLocation : ℕ → ℕ → ℕ → Bool → Result
-  byLocation w x to taint =
-      let e = entryToUse 𝓜 s w x in
-      sent (putEntry 𝓜 s w e (gains (𝓜 .firstWeight) x taint (entry 𝓜 s w e))) (Reference to w e (𝓜 .firstWeight))
-
-  -- "by reference. Half its weight, rounded down, is sent; the rest stays."
-  unfoldable pub byReference : ℕ → ℕ → ℕ → Result
-  byReference w x to = sent (putCell 𝓜 s w x (keeps 𝓜 (cell 𝓜 s w x))) (sends 𝓜 to (cell 𝓜 s w x))
-
-  -- "export(w, c, to): end VAR or VAL: by location .. untainted .. End EX: by reference. Value: slot."
-  unfoldable pub export : ℕ → ℕ → ℕ → Result
+  -- "export(w, c, to): .. Value: slot."
+  unfoldable pub export : ℕ → ℕ → ℕ → Effect
   export w c to =
       let x = end 𝓜 s w c in
-      let ex = isEx (endKind 𝓜 s w c) in
-      checked s (sendRefusals 𝓜 s w c to ++ cond ex (byReferenceRefusals 𝓜 s w x to) (byLocationRefusals 𝓜 s w x to))
-      (cond ex (byReference w x to) (byLocation w x to false))
+      checked (exportRefusals 𝓜 s w c to) (exportEnd 𝓜 w x to (endKind 𝓜 s w c) (used 𝓜 s w x) (lowestEmptySlot 𝓜 s))
 
   -- "indirect(w, c, to): the end must be an EX; that EX cell is exported by location. A new entry is tainted if the EX is unsafe. Value: slot."
-  unfoldable pub indirect : ℕ → ℕ → ℕ → Result
+  unfoldable pub indirect : ℕ → ℕ → ℕ → Effect
   indirect w c to =
-      checked s (indirectRefusals 𝓜 s w c to) (byLocation w (end 𝓜 s w c) to (not (safe 𝓜 s w (endKind 𝓜 s w c))))
+      let x = end 𝓜 s w c in
+      checked (indirectRefusals 𝓜 s w c to)
+      (byLocation 𝓜 w x to (not (safe 𝓜 s w (endKind 𝓜 s w c))) (used 𝓜 s w x) (lowestEmptySlot 𝓜 s))
 
   -- "transfer(w, c, to): c itself an EX, not busy; it is freed and its whole weight sent as a Reference. Value: slot."
-  unfoldable pub transfer : ℕ → ℕ → ℕ → Result
-  transfer w c to =
-      checked s (transferRefusals 𝓜 s w c to) (sent (putCell 𝓜 s w c Free) (sendsWhole to (cell 𝓜 s w c)))
+  unfoldable pub transfer : ℕ → ℕ → ℕ → Effect
+  transfer w c to = checked (transferRefusals 𝓜 s w c to) (transferred w c to (cell 𝓜 s w c) (lowestEmptySlot 𝓜 s))
 
   -- "drop(w, c): freed. An EX sends its whole weight as Release, value the slot; any other kind: value 64."
-  unfoldable pub drop : ℕ → ℕ → Result
-  drop w c =
-      let k = cell 𝓜 s w c in
-      let freed = putCell 𝓜 s w c Free in
-      checked s (dropRefusals 𝓜 s w c) (cond (isEx k) (sent freed (releases k)) (record { outcome = Done 64; after = freed }))
+  unfoldable pub drop : ℕ → ℕ → Effect
+  drop w c = checked (dropRefusals 𝓜 s w c) (dropped w c (cell 𝓜 s w c) (lowestEmptySlot 𝓜 s))
 
-  -- a message put into the lowest empty slot, the EX at x changed: Sent, value the slot
-  abbrev pub sentFor : ℕ → ℕ → Kind → Message → Result
-  sentFor w x k m =
-      let i = lowestEmptySlot 𝓜 s in
-      record { outcome = Sent i; after = putMessage (putCell 𝓜 s w x k) i m }
+  -- "read(w, c): end VAL or known: done, value n. .."
+  unfoldable pub read : ℕ → ℕ → Effect
+  read w c = checked (readRefusals 𝓜 s w c) (readAt w (end 𝓜 s w c) (endKind 𝓜 s w c) (lowestEmptySlot 𝓜 s))
 
-  -- "read(w, c): end VAL or known: done, value n. VAR: Unbound. Reading: Waiting. Else a Read is sent and the EX is reading: Sent, value
-  -- the slot." A cell whose end is free or a REF is refused before.
-  abbrev pub readEx : ℕ → ℕ → ℕ → ℕ → ℕ → Status → Bool → Result
-  readEx w x o e n Idle a = sentFor w x (Ex o e n Reading a) (Read w x o e)
-  readEx w x o e n Reading a = record { outcome = Waiting; after = s }
-  readEx w x o e n (Known v) a = record { outcome = Done v; after = s }
-
-  abbrev pub readAt : ℕ → ℕ → Kind → Result
-  readAt w x Free = record { outcome = Unbound; after = s }
-  readAt w x Var = record { outcome = Unbound; after = s }
-  readAt w x (Val n) = record { outcome = Done n; after = s }
-  readAt w x (Ref d) = record { outcome = Unbound; after = s }
-  readAt w x (Ex o e n st a) = readEx w x o e n st a
-
-  unfoldable pub read : ℕ → ℕ → Result
-  read w c = checked s (readRefusals 𝓜 s w c) (readAt w (end 𝓜 s w c) (endKind 𝓜 s w c))
-
-  -- "ask(w, c): end an EX. Asking already: Waiting. Else Ask is sent: Sent, value the slot." The EX is then asking.
-  abbrev pub askEx : ℕ → ℕ → ℕ → ℕ → ℕ → Status → Bool → Result
-  askEx w x o e n st true = record { outcome = Waiting; after = s }
-  askEx w x o e n st false = sentFor w x (Ex o e n st true) (Ask w x o e)
-
-  unfoldable pub ask : ℕ → ℕ → Result
-  ask w c =
-      checked s (askRefusals 𝓜 s w c)
-      (onEx (record { outcome = Waiting; after = s }) (askEx w (end 𝓜 s w c)) (endKind 𝓜 s w c))
+  -- "ask(w, c): end an EX. .."
+  unfoldable pub ask : ℕ → ℕ → Effect
+  ask w c = checked (askRefusals 𝓜 s w c) (askAt w (end 𝓜 s w c) (endKind 𝓜 s w c) (lowestEmptySlot 𝓜 s))
 
   -- "bound: value B, the sum of 1 for each Reference, Release, Answer and Supply, 2 for each Ask, and E + 1 for each Read, E the number of
   -- live entries."
@@ -166,5 +167,5 @@ module _ (𝓜 : Machine) (s : Tables) where
       let E = liveEntries s in
       total (λ x. costs E (x .message)) (s .slots)
 
-  unfoldable pub bound : Result
-  bound = checked s (boundRefusals 𝓜 s) (record { outcome = Done B; after = s })
+  unfoldable pub bound : Effect
+  bound = checked (boundRefusals 𝓜 s) (answered (Done B))

@@ -22,7 +22,7 @@ use Rattle.rules.specs.Answers.{codeOf, valueOf, checked}
 use Rattle.rules.specs.Chains.{follow}
 use Rattle.rules.specs.Sound.{exesNaming, entriesNaming, readsOf, asksOf, reached, held, point1, point2, point3, point4, point5, point6, sound}
 use Rattle.rules.specs.Refusals.{entryToUse, ready}
-use Rattle.rules.specs.Calls.{allFree, closed, start, new, set, bind, byLocation, byReference, export, indirect, transfer, drop, read, ask, B, bound}
+use Rattle.rules.specs.Calls.{allFree, closed, start, new, set, bind, export, indirect, transfer, drop, read, ask, B, bound}
 use Rattle.rules.specs.Deliver.{arrivalCell, deliverHome, deliverAway, deliverRelease, deliverRead, deliverAnswer, deliverSupply, deliverAsk, deliverMessage, deliver}
 use Rattle.rules.specs.Step.{step}
 
@@ -227,7 +227,7 @@ wholeRun =
 
 -- every row holds, one after the other
 unfoldable pub holdsFrom : Tables → List Row → Bool
-unfolding allBelow sumBelow lowestFrom walkMeets eachFrom total cell entry end endKind safe entryOf exported referred busy lowestFreeCell lowestFreeEntry lowestEmptySlot exNaming freeCells booked liveEntries putCell putEntry putMessage checked exesNaming entriesNaming readsOf asksOf follow reached held point1 point2 point3 point4 point5 point6 sound entryToUse ready allFree start new set bind byLocation byReference export indirect transfer drop read ask B bound arrivalCell deliverHome deliverAway deliverRelease deliverRead deliverAnswer deliverSupply deliverAsk deliverMessage deliver step atCeiling nearlyFull
+unfolding allBelow sumBelow lowestFrom walkMeets eachFrom total cell entry end endKind safe entryOf exported referred busy lowestFreeCell lowestFreeEntry lowestEmptySlot exNaming freeCells booked liveEntries putCell putEntry putMessage checked exesNaming entriesNaming readsOf asksOf follow reached held point1 point2 point3 point4 point5 point6 sound entryToUse ready allFree start new set bind export indirect transfer drop read ask B bound arrivalCell deliverHome deliverAway deliverRelease deliverRead deliverAnswer deliverSupply deliverAsk deliverMessage deliver step atCeiling nearlyFull
 holdsFrom s [] = true
 holdsFrom s ((gives q code value) ∷ rows) =
     let r = step eight s q in

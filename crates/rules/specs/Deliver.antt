@@ -5,16 +5,18 @@ use lib.Dec.{ltb, leb, eqb}
 use Rattle.tables.specs.declared.Status.{Status}
 use Rattle.tables.specs.declared.Status.the-variants.{Idle, Reading, Known}
 use Rattle.tables.specs.declared.Kind.{Kind}
-use Rattle.tables.specs.declared.Kind.the-variants.{Free, Var, Val, Ref, Ex}
+use Rattle.tables.specs.declared.Kind.the-variants.{Ex}
 use Rattle.tables.specs.declared.Holding.{Holding}
 use Rattle.tables.specs.declared.Holding.the-variants.{Unused, Live}
 use Rattle.tables.specs.declared.Message.{Message}
 use Rattle.tables.specs.declared.Message.the-variants.{Empty, Reference, Release, Read, Answer, Ask, Supply}
 use Rattle.tables.specs.declared.Outcome.the-variants.{Done}
+use Rattle.tables.specs.declared.Change.the-variants.{OfSlot, OfCellAndSlot, OfEntryAndSlot}
+use Rattle.tables.specs.declared.Effect.{Effect}
 use Rattle.tables.specs.Machine.{Machine, Tables}
-use Rattle.tables.specs.Parts.{onEx, cellOf, entryWeight}
-use Rattle.tables.specs.Look.{cell, entry, exNaming, lowestFreeCell, message, putCell, putEntry, putMessage}
-use Rattle.rules.specs.Answers.{Result, checked}
+use Rattle.tables.specs.Parts.{onVal, onEx, cellOf, entryWeight}
+use Rattle.tables.specs.Look.{cell, entry, exNaming, lowestFreeCell, message}
+use Rattle.rules.specs.Answers.{done, answered, checked}
 use Rattle.rules.specs.Chains.{entryEnd}
 use Rattle.rules.specs.Refusals.{deliverRefusals}
 
@@ -48,11 +50,7 @@ readOnEx r c o e Reading = Read r c o e
 readOnEx r c o e (Known v) = Answer r c v
 
 abbrev pub readOn : ℕ → ℕ → Message → Kind → Message
-readOn r c m Free = m
-readOn r c m Var = m
-readOn r c m (Val v) = Answer r c v
-readOn r c m (Ref d) = m
-readOn r c m (Ex o e n st a) = readOnEx r c o e st
+readOn r c m k = onEx (onVal m (λ v. Answer r c v) k) (λ o e n st a. readOnEx r c o e st) k
 
 module _ (𝓜 : Machine) (s : Tables) where
   -- the cell of worker w where a Reference to the entry e of worker o arrives
@@ -63,46 +61,42 @@ module _ (𝓜 : Machine) (s : Tables) where
       cond (ltb x (𝓜 .cells)) x free
 
   -- "Reference: at the owner, the weight is taken off the entry (freed at 0), value its cell."
-  unfoldable pub deliverHome : ℕ → ℕ → ℕ → ℕ → Result
+  unfoldable pub deliverHome : ℕ → ℕ → ℕ → ℕ → Effect
   deliverHome k o e w =
       let x = entry 𝓜 s o e in
-      record { outcome = Done (cellOf x); after = putMessage (putEntry 𝓜 s o e (takenOff w x)) k Empty }
+      done (cellOf x) (OfEntryAndSlot o e (takenOff w x) k Empty)
 
   -- "Elsewhere it joins the EX naming that entry, or the lowest free cell becomes such an EX, idle. Value: cell."
-  unfoldable pub deliverAway : ℕ → ℕ → ℕ → ℕ → ℕ → Result
+  unfoldable pub deliverAway : ℕ → ℕ → ℕ → ℕ → ℕ → Effect
   deliverAway k to o e w =
       let c = arrivalCell to o e in
-      record { outcome = Done c; after = putMessage (putCell 𝓜 s to c (joined o e w (cell 𝓜 s to c))) k Empty }
+      done c (OfCellAndSlot to c (joined o e w (cell 𝓜 s to c)) k Empty)
 
   -- "Release: weight taken off, entry freed at 0. Value 0."
-  unfoldable pub deliverRelease : ℕ → ℕ → ℕ → ℕ → Result
-  deliverRelease k o e w =
-      record { outcome = Done 0; after = putMessage (putEntry 𝓜 s o e (takenOff w (entry 𝓜 s o e))) k Empty }
+  unfoldable pub deliverRelease : ℕ → ℕ → ℕ → ℕ → Effect
+  deliverRelease k o e w = done 0 (OfEntryAndSlot o e (takenOff w (entry 𝓜 s o e)) k Empty)
 
   -- "Read: .. Value 0."
-  unfoldable pub deliverRead : ℕ → ℕ → ℕ → ℕ → ℕ → Result
-  deliverRead k r c o e =
-      record { outcome = Done 0; after = putMessage s k (readOn r c (Read r c o e) (entryEnd 𝓜 s o (entry 𝓜 s o e))) }
+  unfoldable pub deliverRead : ℕ → ℕ → ℕ → ℕ → ℕ → Effect
+  deliverRead k r c o e = done 0 (OfSlot k (readOn r c (Read r c o e) (entryEnd 𝓜 s o (entry 𝓜 s o e))))
 
   -- "Answer: the EX is known with n. Value: cell."
-  unfoldable pub deliverAnswer : ℕ → ℕ → ℕ → ℕ → Result
-  deliverAnswer k r c v =
-      record { outcome = Done c; after = putMessage (putCell 𝓜 s r c (known v (cell 𝓜 s r c))) k Empty }
+  unfoldable pub deliverAnswer : ℕ → ℕ → ℕ → ℕ → Effect
+  deliverAnswer k r c v = done c (OfCellAndSlot r c (known v (cell 𝓜 s r c)) k Empty)
 
   -- "Supply: weight added, no longer asking. Value: cell."
-  unfoldable pub deliverSupply : ℕ → ℕ → ℕ → ℕ → Result
-  deliverSupply k a c w =
-      record { outcome = Done c; after = putMessage (putCell 𝓜 s a c (supplied w (cell 𝓜 s a c))) k Empty }
+  unfoldable pub deliverSupply : ℕ → ℕ → ℕ → ℕ → Effect
+  deliverSupply k a c w = done c (OfCellAndSlot a c (supplied w (cell 𝓜 s a c)) k Empty)
 
   -- "Ask: the entry gains the smaller of 1,024 and what is left below the ceiling, perhaps 0; becomes Supply. Value 0."
-  unfoldable pub deliverAsk : ℕ → ℕ → ℕ → ℕ → ℕ → Result
+  unfoldable pub deliverAsk : ℕ → ℕ → ℕ → ℕ → ℕ → Effect
   deliverAsk k a c o e =
       let x = entry 𝓜 s o e in
       let w = min (𝓜 .firstWeight) (𝓜 .ceiling - entryWeight x) in
-      record { outcome = Done 0; after = putMessage (putEntry 𝓜 s o e (grown w x)) k (Supply a c w) }
+      done 0 (OfEntryAndSlot o e (grown w x) k (Supply a c w))
 
-  unfoldable pub deliverMessage : ℕ → Message → Result
-  deliverMessage k Empty = record { outcome = Done 0; after = s }
+  unfoldable pub deliverMessage : ℕ → Message → Effect
+  deliverMessage k Empty = answered (Done 0)
   deliverMessage k (Reference to o e w) = cond (eqb to o) (deliverHome k o e w) (deliverAway k to o e w)
   deliverMessage k (Release o e w) = deliverRelease k o e w
   deliverMessage k (Read r c o e) = deliverRead k r c o e
@@ -110,5 +104,5 @@ module _ (𝓜 : Machine) (s : Tables) where
   deliverMessage k (Ask a c o e) = deliverAsk k a c o e
   deliverMessage k (Supply a c w) = deliverSupply k a c w
 
-  unfoldable pub deliver : ℕ → Result
-  deliver k = checked s (deliverRefusals 𝓜 s k) (deliverMessage k (message s k))
+  unfoldable pub deliver : ℕ → Effect
+  deliver k = checked (deliverRefusals 𝓜 s k) (deliverMessage k (message s k))

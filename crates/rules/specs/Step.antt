@@ -7,24 +7,24 @@ use Rattle.numbers.specs.Below.{bit}
 use Rattle.tables.specs.declared.Call.{Call}
 use Rattle.tables.specs.declared.Call.the-variants.{Start, New, Set, Bind, Export, Indirect, Transfer, Drop, ReadCell, AskWeight, Deliver, Bound}
 use Rattle.tables.specs.Machine.{Machine, Tables}
-use Rattle.rules.specs.Answers.{Result, succeeds}
+use Rattle.rules.specs.Answers.{Result, made, succeeds}
 use Rattle.rules.specs.Calls.{start, new, set, bind, export, indirect, transfer, drop, read, ask, bound}
 use Rattle.rules.specs.Deliver.{deliver}
 
 module _ (𝓜 : Machine) where
   unfoldable pub step : Tables → Call → Result
   step s (Start p) = start 𝓜 p
-  step s (New w) = new 𝓜 s w
-  step s (Set w c n) = set 𝓜 s w c n
-  step s (Bind w c x) = bind 𝓜 s w c x
-  step s (Export w c to) = export 𝓜 s w c to
-  step s (Indirect w c to) = indirect 𝓜 s w c to
-  step s (Transfer w c to) = transfer 𝓜 s w c to
-  step s (Drop w c) = drop 𝓜 s w c
-  step s (ReadCell w c) = read 𝓜 s w c
-  step s (AskWeight w c) = ask 𝓜 s w c
-  step s (Deliver k) = deliver 𝓜 s k
-  step s Bound = bound 𝓜 s
+  step s (New w) = made 𝓜 s (new 𝓜 s w)
+  step s (Set w c n) = made 𝓜 s (set 𝓜 s w c n)
+  step s (Bind w c x) = made 𝓜 s (bind 𝓜 s w c x)
+  step s (Export w c to) = made 𝓜 s (export 𝓜 s w c to)
+  step s (Indirect w c to) = made 𝓜 s (indirect 𝓜 s w c to)
+  step s (Transfer w c to) = made 𝓜 s (transfer 𝓜 s w c to)
+  step s (Drop w c) = made 𝓜 s (drop 𝓜 s w c)
+  step s (ReadCell w c) = made 𝓜 s (read 𝓜 s w c)
+  step s (AskWeight w c) = made 𝓜 s (ask 𝓜 s w c)
+  step s (Deliver k) = made 𝓜 s (deliver 𝓜 s k)
+  step s Bound = made 𝓜 s (bound 𝓜 s)
 
   -- the state after a list of calls
   unfoldable pub run : Tables → List Call → Tables
@@ -38,11 +38,11 @@ module _ (𝓜 : Machine) where
   -- slots delivered in this order, refused ones skipped: the state reached, and how many succeed
   unfoldable pub drained : Tables → List ℕ → Tables
   drained s [] = s
-  drained s (k ∷ ks) = drained (deliver 𝓜 s k .after) ks
+  drained s (k ∷ ks) = drained (made 𝓜 s (deliver 𝓜 s k) .after) ks
 
   unfoldable pub successes : Tables → List ℕ → ℕ
   successes s [] = 0
-  successes s (k ∷ ks) = bit (delivers s k) + successes (deliver 𝓜 s k .after) ks
+  successes s (k ∷ ks) = bit (delivers s k) + successes (made 𝓜 s (deliver 𝓜 s k) .after) ks
 
 abbrev pub isStart : Call → Bool
 isStart (Start p) = true

@@ -16,6 +16,9 @@ use Rattle.tables.specs.declared.Holding.{Holding}
 use Rattle.tables.specs.declared.Holding.the-variants.{Unused}
 use Rattle.tables.specs.declared.Message.{Message}
 use Rattle.tables.specs.declared.Message.the-variants.{Empty}
+use Rattle.tables.specs.declared.Room.{Room}
+use Rattle.tables.specs.declared.Change.{Change}
+use Rattle.tables.specs.declared.Change.the-variants.{Nothing, OfCell, OfSlot, OfCellAndSlot, OfEntryAndSlot}
 use Rattle.tables.specs.Machine.{Machine, Tables}
 use Rattle.tables.specs.Parts.{isFree, isReading, isAsking, exNames, refNames, endFrom, isUnused, isLive, isTainted, entryNames, isEmpty, goesTo}
 
@@ -105,6 +108,10 @@ booked s w = total (λ x. bit (goesTo w (x .message))) (s .slots)
 unfoldable pub liveEntries : Tables → ℕ
 liveEntries s = total (λ x. bit (isLive (x .holding))) (s .entries)
 
+-- the room for a Reference at worker w
+abbrev pub room : Machine → Tables → ℕ → Room
+room 𝓜 s w = record { free = freeCells 𝓜 s w; booked = booked s w; slot = lowestEmptySlot 𝓜 s }
+
 -- ---- the tables with one part changed
 
 module _ (𝓜 : Machine) (s : Tables) where
@@ -123,3 +130,11 @@ module _ (𝓜 : Machine) (s : Tables) where
 unfoldable pub putMessage : Tables → ℕ → Message → Tables
 putMessage s k m =
     record { p = s .p; cells = s .cells; entries = s .entries; slots = set (s .slots) k (record { message = m }) }
+
+-- what a call changes, put into the tables
+abbrev pub changed : Machine → Tables → Change → Tables
+changed 𝓜 s Nothing = s
+changed 𝓜 s (OfCell w c k) = putCell 𝓜 s w c k
+changed 𝓜 s (OfSlot i m) = putMessage s i m
+changed 𝓜 s (OfCellAndSlot w c k i m) = putMessage (putCell 𝓜 s w c k) i m
+changed 𝓜 s (OfEntryAndSlot w e x i m) = putMessage (putEntry 𝓜 s w e x) i m

@@ -23,6 +23,14 @@ onEx d f (Val n) = d
 onEx d f (Ref c) = d
 onEx d f (Ex o e w st a) = f o e w st a
 
+-- what f makes of the value of a VAL; d of any other cell
+abbrev pub onVal : {A : Type 0} → A → (ℕ → A) → Kind → A
+onVal d f Free = d
+onVal d f Var = d
+onVal d f (Val n) = f n
+onVal d f (Ref c) = d
+onVal d f (Ex o e w st a) = d
+
 -- what f makes of the cell that a REF names; d of any other cell
 abbrev pub onRef : {A : Type 0} → A → (ℕ → A) → Kind → A
 onRef d f Free = d
@@ -131,6 +139,16 @@ isEmpty (Read r c o e) = false
 isEmpty (Answer r c n) = false
 isEmpty (Ask a c o e) = false
 isEmpty (Supply a c w) = false
+
+-- what f makes of a Read's fields; d of any other message
+abbrev pub onRead : {A : Type 0} → A → (ℕ → ℕ → ℕ → ℕ → A) → Message → A
+onRead d f Empty = d
+onRead d f (Reference to o e n) = d
+onRead d f (Release o e n) = d
+onRead d f (Read r c o e) = f r c o e
+onRead d f (Answer r c n) = d
+onRead d f (Ask a c o e) = d
+onRead d f (Supply a c n) = d
 
 -- a Reference going to worker w
 abbrev pub goesTo : ℕ → Message → Bool

@@ -140,6 +140,53 @@ pub enum Outcome {
     Refused(Refusal),
 }
 
+// What a call changes: nothing, a cell, a slot, or a slot and a cell or an entry.
+pub enum Change {
+    Nothing,
+    OfCell {
+        w: u8,
+        c: u8,
+        kind: Kind,
+    },
+    OfSlot {
+        slot: u8,
+        message: Message,
+    },
+    OfCellAndSlot {
+        w: u8,
+        c: u8,
+        kind: Kind,
+        slot: u8,
+        message: Message,
+    },
+    OfEntryAndSlot {
+        w: u8,
+        e: u8,
+        holding: Holding,
+        slot: u8,
+        message: Message,
+    },
+}
+
+// What a call does: its answer, and what it changes.
+pub struct Effect {
+    pub outcome: Outcome,
+    pub change: Change,
+}
+
+// An entry to use: its number, and what it holds.
+pub struct Used {
+    pub number: u8,
+    pub holding: Holding,
+}
+
+// The room for a Reference at a worker: its free cells, the References booked there, and the lowest empty slot.
+pub struct Room {
+    pub free: u8,
+    pub booked: u8,
+    pub slot: u8,
+}
+
 pub struct Reply {
     pub outcome: Outcome,
     pub state: State,

@@ -32,4 +32,4 @@ ask-spec =
     rw (c .replied .ensures, c .before .answer .ensures)
     (decides eight t _ _ _ _
     (rw (c .before .before .before .slot-refusal .ensures, d .is-asking .ensures, d .before .refuse-if .ensures, d .before .before .is-ex .ensures, d .before .before .before .cell-refusals .ensures, e .is-sound .ensures, slot, look))
-    (λ h. rw (c .before .before .ask-at .ensures t slot, look)))))
+    (λ h. rw (c .before .before .ask-at .ensures, slot, look)))))

@@ -20,14 +20,12 @@ bind-spec =
     (λ c κs. tt)
     (λ c κs. tt)
     (λ c κs. tt)
-    (λ c κs. tt)
     (λ c.
     let d = c .before .before .before .before in
     let e = d .before .before .before .before in
-    let f = e .before .before .before .before in
-    let t = tables (f .args .s) in
-    let other = e .see .ensures t refl in
+    let t = tables (e .before .before .before .args .s) in
+    let other = d .before .before .before .see .ensures t refl in
     rw (c .replied .ensures, c .before .answer .ensures)
     (decides eight t _ _ _ _
-    (rw (c .before .before .before .bind-refusals .ensures, d .is-sound .ensures, d .before .both .ensures, d .before .before .is-safe .ensures t refl, d .before .before .before .is-exported .ensures t refl, other, e .before .cell-at .ensures t refl))
-    (λ h. rw (c .before .before .with-cell .ensures t, other)))))
+    (rw (c .before .before .before .bind-refusals .ensures, d .is-sound .ensures, d .before .is-safe .ensures t refl, d .before .before .is-exported .ensures t refl, other, e .cell-at .ensures t refl))
+    (λ h. rw (c .before .before .with-cell .ensures, other)))))

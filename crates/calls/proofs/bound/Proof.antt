@@ -24,4 +24,4 @@ bound-spec =
     rw (c .replied .ensures, c .before .answer .ensures)
     (decides eight t _ _ _ _
     (rw (d .refuse-if .ensures, d .before .is-sound .ensures))
-    (λ h. rw (c .before .before .unchanged .ensures t, c .before .before .before .all-costs .ensures t refl refl)))))
+    (λ h. rw (c .before .before .unchanged .ensures, c .before .before .before .all-costs .ensures t refl refl)))))

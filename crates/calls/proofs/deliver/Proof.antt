@@ -2,13 +2,14 @@
 use mathlib.Core.Path.{refl}
 use Rattle.tables.specs.Machine.{eight, tables}
 use Rattle.changes.specs.BelowCeiling.{message-weight}
+use Rattle.rules.specs.Refusals.{ready}
 use Rattle.rules.specs.Deliver.{deliver}
 use Rattle.calls.specs.Verdicts.{along, decides}
 use Rattle.calls.proofs.deliver.Statement.{statement}
 use Rattle.calls.proofs.deliver.Tie as tie
 
 pub deliver-spec : {M : Type 1} → statement M
-unfolding along deliver
+unfolding along deliver ready
 deliver-spec =
     tie.close
     (tie.spec
@@ -32,5 +33,5 @@ deliver-spec =
     let end = e .before .read-end .ensures t refl refl in
     rw (c .replied .ensures, c .before .answer .ensures)
     (decides eight t _ _ _ _
-    (rw (c .before .before .before .refuse-if3 .ensures, d .is-ready .ensures t end, d .before .refuse-if2 .ensures, d .before .before .is-empty .ensures, d .before .before .before .refuse-if .ensures, e .is-sound .ensures, m))
+    (rw (c .before .before .before .refuse-if3 .ensures, d .is-ready .ensures, end, d .before .refuse-if2 .ensures, d .before .before .is-empty .ensures, d .before .before .before .refuse-if .ensures, e .is-sound .ensures, m))
     (λ h. rw (c .before .before .deliver-message .ensures t refl refl h (rw m (message-weight _ _ h _)) end, m)))))

@@ -32,4 +32,4 @@ drop-spec =
     rw (c .replied .ensures, c .before .answer .ensures)
     (decides eight t _ _ _ _
     (rw (c .before .before .before .slot-refusal .ensures, d .refuse-if .ensures, d .before .cell-refusals .ensures, d .before .before .is-sound .ensures, d .before .before .before .is-ex .ensures, slot, e .before .is-busy .ensures t refl refl k, k))
-    (λ h. rw (c .before .before .dropped .ensures t slot, d .before .before .before .is-ex .ensures, k)))))
+    (λ h. rw (c .before .before .dropped .ensures, slot, k)))))

@@ -3,6 +3,7 @@ use mathlib.Core.Path.{refl}
 use Rattle.tables.specs.Machine.{eight, tables}
 use Rattle.tables.specs.Look.{endKind}
 use Rattle.rules.specs.Calls.{export}
+use Rattle.changes.specs.BelowCeiling.{entry-weight}
 use Rattle.calls.specs.Verdicts.{along, decides}
 use Rattle.calls.proofs.export.Statement.{statement}
 use Rattle.calls.proofs.export.Tie as tie
@@ -21,16 +22,14 @@ export-spec =
     (λ c κs. tt)
     (λ c κs. tt)
     (λ c κs. tt)
-    (λ c κs. tt)
     (λ c.
     let d = c .before .before .before .before in
     let e = d .before .before .before .before in
-    let f = e .before .before .before .before in
-    let t = tables (f .before .args .s) in
-    let look = e .before .see .ensures t refl in
+    let t = tables (e .before .before .before .before .args .s) in
+    let look = e .see .ensures t refl in
     let u = d .before .before .before .use-entry .ensures t refl in
     let room = d .before .before .room-at .ensures t refl refl in
     rw (c .replied .ensures, c .before .answer .ensures)
     (decides eight t _ _ _ _
-    (rw (c .before .before .before .end-refusals .ensures, d .send-refusals .ensures, d .before .is-sound .ensures, room, u, e .is-ex .ensures, look))
-    (λ h. rw (c .before .before .export-end .ensures t h (rw look) u (rw room), e .is-ex .ensures, look)))))
+    (rw (c .before .before .before .end-refusals .ensures, d .send-refusals .ensures, d .before .is-sound .ensures, room, u, look))
+    (λ h. rw (c .before .before .export-end .ensures (rw u (entry-weight _ _ h _ _)), room, u, look)))))

@@ -2,6 +2,7 @@
 use mathlib.Core.Path.{refl}
 use Rattle.tables.specs.Machine.{eight, tables}
 use Rattle.rules.specs.Calls.{indirect}
+use Rattle.changes.specs.BelowCeiling.{entry-weight}
 use Rattle.calls.specs.Verdicts.{along, decides}
 use Rattle.calls.proofs.indirect.Statement.{statement}
 use Rattle.calls.proofs.indirect.Tie as tie
@@ -34,4 +35,4 @@ indirect-spec =
     rw (c .replied .ensures, c .before .answer .ensures)
     (decides eight t _ _ _ _
     (rw (d .by-location-refusals .ensures, d .before .refuse-if .ensures, d .before .before .is-ex .ensures, d .before .before .before .send-refusals .ensures, e .is-sound .ensures, room, u, look))
-    (λ h. rw (c .before .before .by-location .ensures t h u (rw room), c .before .before .before .is-safe .ensures t refl, look)))))
+    (λ h. rw (c .before .before .by-location .ensures (rw u (entry-weight _ _ h _ _)), c .before .before .before .is-safe .ensures t refl, room, u, look)))))

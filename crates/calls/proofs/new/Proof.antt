@@ -29,4 +29,4 @@ new-spec =
     rw (c .replied .ensures, c .before .answer .ensures)
     (decides eight t _ _ _ _
     (rw (d .refuse-if .ensures, d .before .worker-refusals .ensures, d .before .before .is-sound .ensures, d .before .before .before .booked .ensures t refl, e .free-cells .ensures t refl))
-    (λ h. rw (c .before .before .with-cell .ensures t, c .before .before .before .lowest-free-cell .ensures t refl)))))
+    (λ h. rw (c .before .before .with-cell .ensures, c .before .before .before .lowest-free-cell .ensures t refl)))))

@@ -29,4 +29,4 @@ read-spec =
     rw (c .replied .ensures, c .before .answer .ensures)
     (decides eight t _ _ _ _
     (rw (c .before .before .before .slot-refusal .ensures, d .read-sends .ensures, d .before .cell-refusals .ensures, d .before .before .is-sound .ensures, slot, look))
-    (λ h. rw (c .before .before .read-at .ensures t slot, look)))))
+    (λ h. rw (c .before .before .read-at .ensures, slot, look)))))

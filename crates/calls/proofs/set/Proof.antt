@@ -26,4 +26,4 @@ set-spec =
     rw (c .replied .ensures, c .before .answer .ensures)
     (decides eight t _ _ _ _
     (rw (c .before .before .before .refuse-if .ensures, d .is-var .ensures, d .before .cell-refusals .ensures, d .before .before .is-sound .ensures, d .before .before .before .cell-at .ensures t refl))
-    (λ h. c .before .before .with-cell .ensures t))))
+    (λ h. c .before .before .with-cell .ensures))))

@@ -1,12 +1,10 @@
 -- `start` meets its contract: refused, or a state with everything free. Assumes nothing.
-use Rattle.tables.specs.Machine.{eight}
-use Rattle.rules.specs.Answers.{checked}
-use Rattle.rules.specs.Calls.{closed, allFree, start}
+use Rattle.rules.specs.Calls.{start}
 use Rattle.calls.proofs.start.Statement.{statement}
 use Rattle.calls.proofs.start.Tie as tie
 
 pub start-spec : {M : Type 1} → statement M
-unfolding checked start
+unfolding start
 start-spec =
     tie.close
     (tie.spec
@@ -14,8 +12,8 @@ start-spec =
     (λ c κs. tt)
     (λ c κs. tt)
     (λ c κs. tt)
-    (λ c. rw (c .replied .ensures, c .before .all-free .ensures, c .before .before .unchanged .ensures (closed eight), ← c .before .before .before .before .either .ensures, c .before .before .before .if1 .taken))
+    (λ c. rw (c .replied .ensures, c .before .all-free .ensures, c .before .before .unchanged .ensures, ← c .before .before .before .before .either .ensures, c .before .before .before .if1 .taken))
     (λ c κs. tt)
     (λ c κs. tt)
     (λ c κs. tt)
-    (λ c. rw (c .replied2 .ensures, c .before .before .all-free2 .ensures, c .before .unchanged2 .ensures (allFree eight (c .before .before .before .before .before .args .p)), ← c .before .before .before .before .either .ensures, c .before .before .before .if1 .left)))
+    (λ c. rw (c .replied2 .ensures, c .before .before .all-free2 .ensures, c .before .unchanged2 .ensures, ← c .before .before .before .before .either .ensures, c .before .before .before .if1 .left)))

@@ -33,4 +33,4 @@ transfer-spec =
     rw (c .replied .ensures, c .before .answer .ensures)
     (decides eight t _ _ _ _
     (rw (c .before .before .before .room-refusals .ensures, d .refuse-if2 .ensures, d .before .refuse-if .ensures, d .before .before .is-ex .ensures, d .before .before .before .send-refusals .ensures, e .is-sound .ensures, room, e .before .before .is-busy .ensures t refl refl k, k))
-    (λ h. rw (c .before .before .transferred .ensures t (rw room), k)))))
+    (λ h. rw (c .before .before .transferred .ensures, room, k)))))

@@ -11,5 +11,5 @@ ask-at-spec =
     (λ c. search needs)
     (λ c κs. tt)
     (λ c κs. tt)
-    (λ c t e. rw (c .ask-ex .ensures t e, c .before .before .k .given .1))
-    (λ c t e. rw (c .unchanged .ensures t) (not-ex _ (c .before .before .args .k) (c .before .match .keys2))))
+    (λ c. rw (c .ask-ex .ensures, c .before .before .k .given .1))
+    (λ c. rw (c .unchanged .ensures) (not-ex _ (c .before .before .args .k) (c .before .match .keys2))))

@@ -7,6 +7,6 @@ ask-ex-spec =
     tie.close
     (tie.spec
     (λ c κs. tt)
-    (λ c t e. rw (c .unchanged .ensures t, c .before .if1 .taken))
+    (λ c. rw (c .unchanged .ensures, c .before .if1 .taken))
     (λ c κs. tt)
-    (λ c t e. rw (c .with-cell-and-message .ensures t, c .before .if1 .left, e)))
+    (λ c. rw (c .with-cell-and-message .ensures, c .before .if1 .left)))

@@ -9,5 +9,6 @@ dropped-spec =
     (λ c κs. tt)
     (λ c κs. tt)
     (λ c κs. tt)
-    (λ c t e. rw (c .with-cell-and-message .ensures t, c .before .releases .ensures, c .before .before .if1 .taken, e))
-    (λ c t e. rw (c .with-cell .ensures t, c .before .if1 .left)))
+    (λ c κs. tt)
+    (λ c. rw (c .with-cell-and-message .ensures, c .before .releases .ensures, ← c .before .before .before .is-ex .ensures, c .before .before .if1 .taken))
+    (λ c. rw (c .with-cell .ensures, ← c .before .before .is-ex .ensures, c .before .if1 .left)))

@@ -8,5 +8,6 @@ export-end-spec =
     (tie.spec
     (λ c κs. tt)
     (λ c κs. tt)
-    (λ c t h e f g. rw (c .by-reference .ensures t e g, c .before .if1 .taken))
-    (λ c t h e f g. rw (c .by-location .ensures t h f g, c .before .if1 .left)))
+    (λ c κs. tt)
+    (λ c h. rw (c .by-reference .ensures, ← c .before .before .is-ex .ensures, c .before .if1 .taken))
+    (λ c h. rw (c .by-location .ensures h, ← c .before .before .is-ex .ensures, c .before .if1 .left)))

@@ -8,4 +8,4 @@ transferred-spec =
     (tie.spec
     (λ c κs. tt)
     (λ c κs. tt)
-    (λ c t e. rw (c .with-cell-and-message .ensures t, c .before .sends-whole .ensures, e)))
+    (λ c. rw (c .with-cell-and-message .ensures, c .before .sends-whole .ensures)))

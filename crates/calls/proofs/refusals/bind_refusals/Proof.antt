@@ -16,6 +16,8 @@ bind-refusals-spec =
     (λ c κs. tt)
     (λ c κs. tt)
     (λ c κs. tt)
+    (λ c κs. tt)
     (λ c.
     let d = c .before .before .before .before in
-    rw (c .refuse-if4 .ensures, c .before .refuse-if3 .ensures, c .before .before .is-ex .ensures, c .before .before .before .refuse-if2 .ensures, d .is-var .ensures, d .before .refuse-if .ensures, d .before .before .is-free .ensures, d .before .before .before .cell-refusals .ensures)))
+    let e = d .before .before .before .before in
+    rw (c .refuse-if4 .ensures, c .before .both .ensures, c .before .before .refuse-if3 .ensures, c .before .before .before .is-ex .ensures, d .refuse-if2 .ensures, d .before .is-var .ensures, d .before .before .refuse-if .ensures, d .before .before .before .is-free .ensures, e .cell-refusals .ensures)))

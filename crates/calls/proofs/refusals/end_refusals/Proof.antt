@@ -8,5 +8,6 @@ end-refusals-spec =
     (tie.spec
     (λ c κs. tt)
     (λ c κs. tt)
-    (λ c. rw (c .by-reference-refusals .ensures, c .before .if1 .taken))
-    (λ c. rw (c .by-location-refusals .ensures, c .before .if1 .left)))
+    (λ c κs. tt)
+    (λ c. rw (c .by-reference-refusals .ensures, ← c .before .before .is-ex .ensures, c .before .if1 .taken))
+    (λ c. rw (c .by-location-refusals .ensures, ← c .before .before .is-ex .ensures, c .before .if1 .left)))

@@ -11,4 +11,4 @@ deliver-answer-spec =
     (λ c κs. tt)
     (λ c κs. tt)
     (λ c κs. tt)
-    (λ c t e. rw (c .with-cell-and-message .ensures t, c .before .known .ensures, c .before .before .cell-at .ensures t e)))
+    (λ c t e. rw (c .with-cell-and-message .ensures, c .before .known .ensures, c .before .before .cell-at .ensures t e)))

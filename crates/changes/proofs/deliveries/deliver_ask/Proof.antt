@@ -15,4 +15,4 @@ deliver-ask-spec =
     (λ c κs. tt)
     (λ c t e.
     let d = c .before .before .before .before in
-    rw (c .with-entry-and-message .ensures t, c .before .grown .ensures, c .before .before .supply-from .ensures, c .before .before .before .entry-weight .ensures, d .entry-at .ensures t e)))
+    rw (c .with-entry-and-message .ensures, c .before .grown .ensures, c .before .before .supply-from .ensures, c .before .before .before .entry-weight .ensures, d .entry-at .ensures t e)))

@@ -17,4 +17,4 @@ deliver-away-spec =
     (λ c κs. tt)
     (λ c t e h q.
     let d = c .before in
-    rw (c .with-cell-and-message .ensures t, d .joined .ensures q (rw (d .before .cell-at .ensures t e) (cell-weight _ _ h _ _)), d .before .cell-at .ensures t e, d .before .before .arrival-cell .ensures t e)))
+    rw (c .with-cell-and-message .ensures, d .joined .ensures q (rw (d .before .cell-at .ensures t e) (cell-weight _ _ h _ _)), d .before .cell-at .ensures t e, d .before .before .arrival-cell .ensures t e)))

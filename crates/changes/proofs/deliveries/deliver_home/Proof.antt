@@ -14,4 +14,4 @@ deliver-home-spec =
     (λ c. search needs)
     (λ c κs. tt)
     (λ c κs. tt)
-    (λ c t e. rw (c .with-entry-and-message .ensures t, c .before .taken-off .ensures, c .before .before .cell-of .ensures, c .before .before .before .entry-at .ensures t e)))
+    (λ c t e. rw (c .with-entry-and-message .ensures, c .before .taken-off .ensures, c .before .before .cell-of .ensures, c .before .before .before .entry-at .ensures t e)))

@@ -23,7 +23,7 @@ deliver-message-spec =
     (λ c κs. tt)
     (λ c. search needs)
     (λ c κs. tt)
-    (λ c t e f h q g. rw (c .unchanged .ensures t, c .before .enum-told .given .1))
+    (λ c t e f h q g. rw (c .unchanged .ensures, c .before .enum-told .given .1))
     (λ c t e f h q g. rw (c .before .before .m .given .1) (c .deliver-reference .ensures t e f h (rw (c .before .before .m .given .1) at q)))
     (λ c t e f h q g. rw (c .deliver-release .ensures t f, c .before .before .m2 .given .1))
     (λ c t e f h q g. rw (c .before .before .m3 .given .1) (c .deliver-read .ensures t (rw (c .before .before .m3 .given .1) at g)))

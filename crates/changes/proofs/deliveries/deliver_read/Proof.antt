@@ -10,4 +10,4 @@ deliver-read-spec =
     (tie.spec
     (λ c κs. tt)
     (λ c κs. tt)
-    (λ c t e. rw (c .with-message .ensures t, c .before .read-on .ensures, e)))
+    (λ c t e. rw (c .with-message .ensures, c .before .read-on .ensures, e)))

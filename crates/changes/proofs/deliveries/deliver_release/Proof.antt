@@ -11,4 +11,4 @@ deliver-release-spec =
     (λ c κs. tt)
     (λ c κs. tt)
     (λ c κs. tt)
-    (λ c t e. rw (c .with-entry-and-message .ensures t, c .before .taken-off .ensures, c .before .before .entry-at .ensures t e)))
+    (λ c t e. rw (c .with-entry-and-message .ensures, c .before .taken-off .ensures, c .before .before .entry-at .ensures t e)))

@@ -14,4 +14,4 @@ deliver-supply-spec =
     (λ c κs. tt)
     (λ c t e h q.
     let d = c .before in
-    rw (c .with-cell-and-message .ensures t, d .supplied .ensures q (rw (d .before .cell-at .ensures t e) (cell-weight _ _ h _ _)), d .before .cell-at .ensures t e)))
+    rw (c .with-cell-and-message .ensures, d .supplied .ensures q (rw (d .before .cell-at .ensures t e) (cell-weight _ _ h _ _)), d .before .cell-at .ensures t e)))

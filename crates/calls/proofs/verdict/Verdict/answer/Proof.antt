@@ -1,11 +1,11 @@
 -- `Verdict::answer` meets its contract, by cases. Assumes nothing.
 use borrow.Author.Needs.{needs}
-use Rattle.calls.specs.Verdicts.{answered}
+use Rattle.calls.specs.Verdicts.{settled}
 use Rattle.calls.proofs.verdict.Verdict.answer.Statement.{statement}
 use Rattle.calls.proofs.verdict.Verdict.answer.Tie as tie
 
 pub answer-spec : {M : Type 1} → statement M
-unfolding answered
+unfolding settled
 answer-spec =
     tie.close
     (tie.spec
