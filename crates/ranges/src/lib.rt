@@ -4,13 +4,17 @@ ghost use Rattle.tables.specs.Machine.{Tables, eight, tables};
 ghost use Rattle.rules.specs.Sound.{point1, eachCell, eachEntry, eachMessage};
 ghost use Rattle.rules.specs.Sound.{kindInRange, holdingInRange, messageInRange, cellInRange, entryInRange};
 use numbers::both;
+use tables::CEILING;
+use tables::CELLS;
 use tables::Cell;
+use tables::ENTRIES;
 use tables::Entry;
 use tables::Holding;
 use tables::Kind;
 use tables::Message;
 use tables::Slot;
 use tables::State;
+use tables::WORKERS;
 
 // With P workers.
 fn kind_in_range(p: u8, k: Kind) -> bool
@@ -20,13 +24,13 @@ fn kind_in_range(p: u8, k: Kind) -> bool
         Kind::Free => true,
         Kind::Var => true,
         Kind::Val(_) => true,
-        Kind::Ref(c) => c < 32,
+        Kind::Ref(c) => c < CELLS,
         Kind::Ex {
             owner,
             entry,
             weight,
             ..
-        } => { both(both(owner < p, entry < 16), weight <= 1048576) }
+        } => { both(both(owner < p, entry < ENTRIES), weight <= CEILING) }
     }
 }
 
@@ -35,7 +39,10 @@ fn holding_in_range(x: Holding) -> bool
 {
     match x {
         Holding::Unused => true,
-        Holding::Live { cell, weight, .. } => both(both(cell < 32, weight <= 1048576), 1 <= weight),
+        Holding::Live { cell, weight, .. } => both(
+            both(cell < CELLS, weight <= CEILING),
+            1 <= weight,
+        ),
     }
 }
 
@@ -50,30 +57,39 @@ fn message_in_range(p: u8, m: Message) -> bool
             owner,
             entry,
             weight,
-        } => both(both(both(to < p, owner < p), entry < 16), weight <= 1048576),
+        } => both(
+            both(both(to < p, owner < p), entry < ENTRIES),
+            weight <= CEILING,
+        ),
         Message::Release {
             owner,
             entry,
             weight,
-        } => both(both(owner < p, entry < 16), weight <= 1048576),
+        } => both(both(owner < p, entry < ENTRIES), weight <= CEILING),
         Message::Read {
             reader,
             cell,
             owner,
             entry,
-        } => both(both(both(reader < p, cell < 32), owner < p), entry < 16),
-        Message::Answer { reader, cell, .. } => both(reader < p, cell < 32),
+        } => both(
+            both(both(reader < p, cell < CELLS), owner < p),
+            entry < ENTRIES,
+        ),
+        Message::Answer { reader, cell, .. } => both(reader < p, cell < CELLS),
         Message::Ask {
             asker,
             cell,
             owner,
             entry,
-        } => both(both(both(asker < p, cell < 32), owner < p), entry < 16),
+        } => both(
+            both(both(asker < p, cell < CELLS), owner < p),
+            entry < ENTRIES,
+        ),
         Message::Supply {
             asker,
             cell,
             weight,
-        } => both(both(asker < p, cell < 32), weight <= 1048576),
+        } => both(both(asker < p, cell < CELLS), weight <= CEILING),
     }
 }
 
@@ -132,7 +148,7 @@ pub fn point_1(s: State) -> bool
     let slots = s.slots;
     both(
         both(
-            both(p <= 8, cells_in_range(p, cells)),
+            both(p <= WORKERS, cells_in_range(p, cells)),
             entries_in_range(p, entries),
         ),
         messages_in_range(p, slots),

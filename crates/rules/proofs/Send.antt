@@ -79,7 +79,7 @@ module _ (𝓜 : Machine) (L : Laws 𝓜) (s : Tables) (F : Facts 𝓜 s) where
       })
       (inr (0, tt)) (λ t. record { answer-ok = inr tt; known-ok = inl (λ k. k) })
 
-  by-location-makes : (w x to : ℕ) (taint : Bool) → Locates w x to taint 
+  by-location-makes : (w x to : ℕ) (taint : Bool) → Locates w x to taint
       → Makes 𝓜 s (changed 𝓜 s (byLocation 𝓜 w x to taint (used 𝓜 s w x) (lowestEmptySlot 𝓜 s) .change))
   unfolding entryToUse
   by-location-makes w x to taint l = go (exported 𝓜 s w x) refl (l .has-entry) (l .below)
@@ -117,7 +117,7 @@ module _ (𝓜 : Machine) (L : Laws 𝓜) (s : Tables) (F : Facts 𝓜 s) where
 
   -- ---- by reference
   by-reference-makes : (w x to : ℕ) → to < s .p → isEx (cell 𝓜 s w x) ≡ true → leb (exWeight (cell 𝓜 s w x)) 1 ≡ false
-      → booked s to < freeCells 𝓜 s to → leb (𝓜 .slots) (lowestEmptySlot 𝓜 s) ≡ false 
+      → booked s to < freeCells 𝓜 s to → leb (𝓜 .slots) (lowestEmptySlot 𝓜 s) ≡ false
       → Makes 𝓜 s (changed 𝓜 s (byReference 𝓜 w x to (cell 𝓜 s w x) (lowestEmptySlot 𝓜 s) .change))
   by-reference-makes w x to u ex heavy room full =
       let y = the-ex (cell 𝓜 s w x) ex in

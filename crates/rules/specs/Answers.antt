@@ -104,7 +104,6 @@ pub data Check : Type 0 where
   _when_ : Refusal → Bool → Check
 
 infix 5 _when_
-
 -- "All but 1 return the state as it came": a refusal changes nothing
 abbrev pub refuse : Bool → Refusal → Effect → Effect
 refuse true why d = answered (Refused why)

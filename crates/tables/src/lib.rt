@@ -1,4 +1,18 @@
-// The types of document 01's forms: the state, a call, its answer.
+// The sizes and weights of document 01, and the types of its forms: the state, a call, its answer.
+
+// How many workers at most, cells and entries a worker, and message slots.
+pub const WORKERS: u8 = 8;
+
+pub const CELLS: u8 = 32;
+
+pub const ENTRIES: u8 = 16;
+
+pub const SLOTS: u8 = 64;
+
+// The weight of a first reference, and the ceiling of an entry's weight.
+pub const FIRST_WEIGHT: u32 = 1024;
+
+pub const CEILING: u32 = 1048576;
 
 // An EX is idle, reading, or known with its value.
 pub enum Status {
