@@ -1,6 +1,6 @@
 -- What is found at a place, from the text; and what follows of the text, for a loop that reads it. Assumes nothing.
 use Prim.Native.Nat.{ℕ, _+_, _-_, _≤_, _<_}
-use mathlib.Core.Path.{_≡_, refl, ap, _∙_}
+use mathlib.Core.Path.{_≡_, refl, sym, ap, _∙_}
 use mathlib.Core.Bool.{Bool, true, false}
 use mathlib.Core.List.{List, [], _∷_}
 use native.Mathlib.Omega.{arith}
@@ -14,15 +14,16 @@ use Rattle.frames.specs.declared.Decoded.{Decoded}
 use Rattle.frames.proofs.Lines.{line-at, no-line-at, first-length}
 use Rattle.reader.specs.Read.{readAt}
 use Rattle.reader.specs.declared.Found.the-variants.{End, Line}
+use Rattle.reader.specs.declared.Passage.{Passage}
 
 module _ (s : List ℕ) (at : ℕ) where
   -- at the end of the text
-  pub finds-end : length s ≤ at → End ≡ readAt s at
+  pub finds-end : length s ≤ at → record { found = End; next = at } ≡ readAt s at
   unfolding readAt
   finds-end h = rw (no-line-at s at h)
 
   -- before it: the bytes up to the line's end
-  pub finds-line : at < length s → Line (decode (take (lineEnd s at - at) (drop at s))) (lineEnd s at + 1) ≡ readAt s at
+  pub finds-line : at < length s → record { found = Line (decode (take (lineEnd s at - at) (drop at s))); next = lineEnd s at + 1 } ≡ readAt s at
   unfolding readAt
   finds-line h = rw (line-at s at h, first-length (drop at s), add-sub-cancel-left)
 
@@ -35,26 +36,26 @@ pub record Got (s : List ℕ) (at : ℕ) (frame : Decoded) (next : ℕ) : Type 0
   pub later : at < next
 
 module _ (s : List ℕ) (at : ℕ) where
-  pub got : (frame : Decoded) (next : ℕ) → readAt s at ≡ Line frame next → Got s at frame next
-  got frame next e = go (ltb at (length s)) refl
+  pub got : (frame : Decoded) → readAt s at .found ≡ Line frame → Got s at frame (readAt s at .next)
+  got frame e = go (ltb at (length s)) refl
     where
-      go : (b : Bool) → ltb at (length s) ≡ b → Got s at frame next
+      go : (b : Bool) → ltb at (length s) ≡ b → Got s at frame (readAt s at .next)
       go true t =
           let h = ltb-true _ _ t in
-          let f = finds-line s at h ∙ e in
-          let n : next ≡ lineEnd s at + 1 = cc in
+          let f = ap (λ (x : Passage). x .found) (finds-line s at h) ∙ e in
+          let n : readAt s at .next ≡ lineEnd s at + 1 = sym (ap (λ (x : Passage). x .next) (finds-line s at h)) in
           record {
             line = take (toNewline (drop at s)) (drop at s);
             lines = rw n (line-at s at h);
             says = cc (ap (λ (k : ℕ). decode (take k (drop at s))) (add-sub-cancel-left at (toNewline (drop at s))));
             within = h;
-            later = omega arith;
+            later = omega (arith, n);
           }
-      go false t = absurd (let h = finds-end s at (ltb-false _ _ t) in let z : _≡_ {A = ℕ} 0 1 = cc in omega arith)
+      go false t = absurd (let h = ap (λ (x : Passage). x .found) (finds-end s at (ltb-false _ _ t)) ∙ e in let z : _≡_ {A = ℕ} 0 1 = cc in omega arith)
 
-  pub ended : readAt s at ≡ End → linesOf (drop at s) ≡ []
+  pub ended : readAt s at .found ≡ End → linesOf (drop at s) ≡ []
   ended e = go (ltb at (length s)) refl
     where
       go : (b : Bool) → ltb at (length s) ≡ b → linesOf (drop at s) ≡ []
-      go true t = absurd (let h = finds-line s at (ltb-true _ _ t) in let z : _≡_ {A = ℕ} 0 1 = cc in omega arith)
+      go true t = absurd (let h = ap (λ (x : Passage). x .found) (finds-line s at (ltb-true _ _ t)) ∙ e in let z : _≡_ {A = ℕ} 0 1 = cc in omega arith)
       go false t = no-line-at s at (ltb-false _ _ t)

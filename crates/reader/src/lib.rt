@@ -1,25 +1,37 @@
-// The reader that holds the text and its place. Its methods leave the work to `read_at`, which takes a slice and a number; whoever
-// reads a text calls `read_from`.
+// The reader that holds the text and its place, and moves on as it reads. Its methods leave the work to `read_at`, which takes a
+// slice and a number.
 ghost use mathlib.Core.Path.{_≡_};
-ghost use Rattle.reader.specs.Read.{readAt};
+ghost use Rattle.reader.specs.Read.{readAt, passage, movedOn};
 use frames::Decoded;
 
-// What stands at a place of a text: a line, what it says and the next place; or the text has ended.
+// What a reader finds: the next line, as what it says; or the text has ended.
 pub enum Found {
     End,
-    Line(Decoded, usize),
+    Line(Decoded),
 }
 
-// The work: what stands at a place of a slice.
-fn read_at(text: &[u8], at: usize) -> Found
+// What stands at a place of a text, and the place after it, which at the end is the same.
+struct Passage {
+    found: Found,
+    next: usize,
+}
+
+// The work: what stands at a place of a slice, and the place after it.
+fn read_at(text: &[u8], at: usize) -> Passage
     ensures { λ r. ⌜ r ≡ readAt (now (text .entry)) at ⌝ }
 {
     if text.len() <= at {
-        return Found::End;
+        return Passage {
+            found: Found::End,
+            next: at,
+        };
     }
     let end = frames::line_end(text, at);
     let frame = frames::decode(&text[at..end]);
-    Found::Line(frame, end + 1)
+    Passage {
+        found: Found::Line(frame),
+        next: end + 1,
+    }
 }
 
 // A text and a place in it.
@@ -29,24 +41,19 @@ pub struct Reader<'a> {
 }
 
 impl<'a> Reader<'a> {
-    // At a place of a text.
-    pub fn new(text: &'a [u8], at: usize) -> Reader<'a>
-        ensures { λ r. ⌜ (r .text ≡ text .entry) × (r .at ≡ at) ⌝ }
+    // At the start of a text.
+    pub fn new(text: &'a [u8]) -> Reader<'a>
+        ensures { λ r. ⌜ (r .text ≡ text .entry) × (r .at ≡ 0) ⌝ }
     {
-        Reader { text, at }
+        Reader { text, at: 0 }
     }
 
-    // What stands at its place.
-    pub fn read(self) -> Found
-        ensures { λ r. ⌜ r ≡ readAt (now (self .entry .text)) (self .entry .at) ⌝ }
+    // What stands at its place, behind which it then stands.
+    pub fn read(&mut self) -> Found
+        ensures { λ r. ⌜ (r ≡ passage (now (self .entry)) .found) × (now (self .exit) ≡ movedOn (now (self .entry))) ⌝ }
     {
-        read_at(self.text, self.at)
+        let here = read_at(self.text, self.at);
+        self.at = here.next;
+        here.found
     }
-}
-
-// What stands at a place of a text, through a reader. Its parameters are plain, so whoever calls it needs no proof by hand.
-pub fn read_from(text: &[u8], at: usize) -> Found
-    ensures { λ r. ⌜ r ≡ readAt (now (text .entry)) at ⌝ }
-{
-    Reader::new(text, at).read()
 }

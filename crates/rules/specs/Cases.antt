@@ -13,7 +13,7 @@ use Rattle.tables.specs.declared.Holding.the-variants.{Unused, Live}
 use Rattle.tables.specs.declared.Message.{Message}
 use Rattle.tables.specs.declared.Message.the-variants.{Empty, Reference, Release, Read, Answer, Ask, Supply}
 use Rattle.tables.specs.declared.Call.{Call}
-use Rattle.tables.specs.declared.Call.the-variants.{Start, New, Set, Bind, Export, Indirect, Transfer, Drop, ReadCell, AskWeight, Deliver}
+use Rattle.tables.specs.declared.Call.the-variants.{Start, New, Set, Bind, Export, Indirect, Transfer, Drop, ReadCell, AskWeight, Deliver, Bound}
 use Rattle.tables.specs.declared.Outcome.{Outcome}
 use Rattle.tables.specs.Machine.{Tables, eight}
 use Rattle.tables.specs.Parts.{exWeight, isUnused, entryWeight, messageWeight}
@@ -164,7 +164,7 @@ numberedCases = k1 ∷ k2 ∷ k3 ∷ k4-k5 ∷ k6 ∷ k7 ∷ k8 ∷ k9 ∷ k10 �
 
 -- ---- wrong turnings that the numbered cases leave open
 
--- "Booking forgotten in new: a Reference arrivalCell and finds no cell." Worker 1 has one free cell, its last, and a Reference comes to it.
+-- "Booking forgotten in new: a Reference arrives and finds no cell." Worker 1 has one free cell, its last, and a Reference comes to it.
 unfoldable pub nearlyFull : Tables
 nearlyFull =
     record {
@@ -201,8 +201,79 @@ knownKeepsWeight =
     ∷ entryWeighs 0 0 1024
     ∷ [])
 
+-- "returns the closed state": after a refused start no worker is there.
+abbrev pub refusedStartCloses : Case
+refusedStartCloses = case (allFree eight 2) (gives (Start 9) 1 0 ∷ gives (New 0) 3 0 ∷ [])
+
+-- "Every call but the start first tests this": a live entry on which nothing is held.
+unfoldable pub nothingHeld : Tables
+nothingHeld = putEntry eight (putCell eight (allFree eight 2) 0 0 Var) 0 0 (Live 0 1 false)
+
+abbrev pub refusedUnsound : Case
+refusedUnsound =
+    case nothingHeld
+    (gives (New 0) 2 0
+    ∷ gives (Set 0 0 7) 2 0
+    ∷ gives (Bind 0 0 0) 2 0
+    ∷ gives (Export 0 0 1) 2 0
+    ∷ gives (Indirect 0 0 1) 2 0
+    ∷ gives (Transfer 0 0 1) 2 0
+    ∷ gives (Drop 0 0) 2 0
+    ∷ gives (ReadCell 0 0) 2 0
+    ∷ gives (AskWeight 0 0) 2 0
+    ∷ gives (Deliver 0) 2 0
+    ∷ gives Bound 2 0
+    ∷ [])
+
+-- "reach the ceiling; the 1,025th: 10": an entry 1,024 below it.
+unfoldable pub belowCeiling : Tables
+belowCeiling =
+    putEntry eight (putCell eight (putCell eight (allFree eight 2) 0 0 Var) 1 0 (Ex 0 0 1047552 Idle false)) 0 0 (Live 0 1047552 false)
+
+abbrev pub ceilingReached : Case
+ceilingReached =
+    case belowCeiling
+    (gives (Export 0 0 1) 0 0
+    ∷ entryWeighs 0 0 1048576
+    ∷ gives (Export 0 0 1) 10 0
+    ∷ [])
+
+-- Busy: an exported VAR, an EX that a REF names; asking no longer once supplied.
+abbrev pub busyCells : Case
+busyCells =
+    case (allFree eight 2)
+    (gives (New 0) 0 0
+    ∷ gives (Export 0 0 1) 0 0
+    ∷ gives (Drop 0 0) 7 0
+    ∷ gives (Deliver 0) 0 0
+    ∷ gives (New 1) 0 1
+    ∷ gives (Bind 1 1 0) 0 0
+    ∷ gives (Drop 1 0) 7 0
+    ∷ gives (Drop 1 1) 0 64
+    ∷ gives (AskWeight 1 0) 0x40 0
+    ∷ gives (Drop 1 0) 7 0
+    ∷ gives (Deliver 0) 0 0
+    ∷ gives (Deliver 0) 0 0
+    ∷ gives (AskWeight 1 0) 0x40 0
+    ∷ [])
+
+-- A Release leaves what a Reference under way holds; a VAL is not set again.
+abbrev pub keptByAReference : Case
+keptByAReference =
+    case (allFree eight 2)
+    (gives (New 0) 0 0
+    ∷ gives (Set 0 0 7) 0 0
+    ∷ gives (Set 0 0 8) 6 0
+    ∷ gives (Export 0 0 1) 0 0
+    ∷ gives (Deliver 0) 0 0
+    ∷ gives (Export 0 0 1) 0 0
+    ∷ gives (Drop 1 0) 0 1
+    ∷ gives (Deliver 1) 0 0
+    ∷ entryWeighs 0 0 1024
+    ∷ [])
+
 abbrev pub wrongTurnings : List Case
-wrongTurnings = bookedCell ∷ knownKeepsWeight ∷ []
+wrongTurnings = bookedCell ∷ knownKeepsWeight ∷ refusedStartCloses ∷ refusedUnsound ∷ ceilingReached ∷ busyCells ∷ keptByAReference ∷ []
 
 -- ---- "A whole run, input then output, line for line"
 abbrev pub wholeRun : Case
@@ -227,7 +298,7 @@ wholeRun =
 
 -- every row holds, one after the other
 unfoldable pub holdsFrom : Tables → List Row → Bool
-unfolding allBelow sumBelow lowestFrom walkMeets eachFrom total cell entry end endKind safe entryOf exported referred busy lowestFreeCell lowestFreeEntry lowestEmptySlot exNaming freeCells booked liveEntries putCell putEntry putMessage checked exesNaming entriesNaming readsOf asksOf follow reached held point1 point2 point3 point4 point5 point6 sound entryToUse ready allFree start new set bind export indirect transfer drop read ask B bound arrivalCell deliverHome deliverAway deliverRelease deliverRead deliverAnswer deliverSupply deliverAsk deliverMessage deliver step atCeiling nearlyFull
+unfolding allBelow sumBelow lowestFrom walkMeets eachFrom total cell entry end endKind safe entryOf exported referred busy lowestFreeCell lowestFreeEntry lowestEmptySlot exNaming freeCells booked liveEntries putCell putEntry putMessage checked exesNaming entriesNaming readsOf asksOf follow reached held point1 point2 point3 point4 point5 point6 sound entryToUse ready allFree start new set bind export indirect transfer drop read ask B bound arrivalCell deliverHome deliverAway deliverRelease deliverRead deliverAnswer deliverSupply deliverAsk deliverMessage deliver step atCeiling nearlyFull nothingHeld belowCeiling
 holdsFrom s [] = true
 holdsFrom s ((gives q code value) ∷ rows) =
     let r = step eight s q in

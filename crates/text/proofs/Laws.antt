@@ -1,4 +1,4 @@
--- The run's loop: what is written so far, and what each line adds. Assumes nothing.
+-- The run's loop: what is written so far, and what each line adds; and the run of a whole text. Assumes nothing.
 use Prim.Native.Nat.{ℕ, _+_, _*_, _≤_, _<_}
 use mathlib.Core.Path.{_≡_, refl, sym, ap, _∙_}
 use mathlib.Core.List.{List, [], _++_, append-nil, append-assoc}
@@ -55,13 +55,19 @@ module _ {input out₀ out : List ℕ} {s : State} {at pos : ℕ} (p : Running i
           sofar = p .sofar ∙ rw (e′, front, e, g .lines, g .says, append-assoc);
         }
 
-  pub run-end : linesOf (drop at input) ≡ [] → length input ≤ 65536 → (pos ≡ length (runText input)) × (out ≡ runText input ++ drop pos out₀)
-  unfolding answersFrom runText
-  run-end e small =
+  pub run-end : linesOf (drop at input) ≡ [] → (pos ≡ length (answersFrom (closed eight) (linesOf input))) × (out ≡ answersFrom (closed eight) (linesOf input) ++ drop pos out₀)
+  unfolding answersFrom
+  run-end e =
       let all : answersFrom (closed eight) (linesOf input) ≡ take pos out = p .sofar ∙ rw (e, append-nil) in
-      rw (le-ltb _ _ small, all)
-      (sym (length-take-le pos out (p .inside)), sym (take-append-drop pos out) ∙ ap (λ (x : List ℕ). take pos out ++ x) (p .rest))
+      rw all (sym (length-take-le pos out (p .inside)), sym (take-append-drop pos out) ∙ ap (λ (x : List ℕ). take pos out ++ x) (p .rest))
 
-pub run-long : (input out₀ out : List ℕ) → 65536 < length input → out ≡ withLine out₀ 0 tooLongLine → (11 ≡ length (runText input)) × (out ≡ runText input ++ drop 11 out₀)
-unfolding runText
-run-long input out₀ out big e = rw (lt-ltb _ _ big, e) (sym (line-length _ _), refl)
+-- the whole text: within the limit, and beyond it
+module _ (input out₀ out : List ℕ) where
+  pub run-short : (n : ℕ) → length input ≤ 65536 → (n ≡ length (answersFrom (closed eight) (linesOf input))) × (out ≡ answersFrom (closed eight) (linesOf input) ++ drop n out₀)
+      → (n ≡ length (runText input)) × (out ≡ runText input ++ drop n out₀)
+  unfolding runText
+  run-short n small e = rw (le-ltb _ _ small) e
+
+  pub run-long : 65536 < length input → out ≡ withLine out₀ 0 tooLongLine → (11 ≡ length (runText input)) × (out ≡ runText input ++ drop 11 out₀)
+  unfolding runText
+  run-long big e = rw (lt-ltb _ _ big, e) (sym (line-length _ _), refl)

@@ -1,14 +1,17 @@
-// The text program's work: every line of a text is read through the reader, run, and answered into a lent buffer.
+// The text program's work: every line of a text is read through one reader, run, and answered into a lent buffer.
 ghost use mathlib.Core.Path.{_≡_};
 ghost use mathlib.Core.List.{_++_};
 ghost use Prim.Native.Nat.{_+_, _*_, _≤_};
 ghost use lib.ListN.{length, drop};
-ghost use Rattle.tables.specs.Machine.{tables, state};
+ghost use Rattle.tables.specs.Machine.{eight, tables, state};
+ghost use Rattle.rules.specs.Calls.{closed};
+ghost use Rattle.frames.specs.Lines.{linesOf};
 ghost use Rattle.frames.specs.AnswerLines.{withLine};
-ghost use Rattle.text.specs.Text.{printed, after, runText};
+ghost use Rattle.text.specs.Text.{printed, after, answersFrom, runText};
 ghost use Rattle.text.specs.Room.{ran, written, Within};
 use frames::Decoded;
 use reader::Found;
+use reader::Reader;
 use tables::State;
 
 // Writes a line into out, from a place on.
@@ -40,8 +43,26 @@ fn answer(s: State, frame: Decoded, out: &mut [u8], at: usize) -> State
     next
 }
 
-// Runs the input from the closed state, where out has room for it, and says how many bytes of answers stand at the front of out.
+// Answers the input's lines from the closed state, where out has room for them, and says how many bytes of answers stand at the front
+// of out. One reader holds the input and the place in it, from the first line to the last.
 fn run_lines(input: &[u8], out: &mut [u8]) -> usize
+    requires { ⌜ 11 * length (now input) + 11 ≤ length (now out) ⌝ }
+    ensures { λ n. ⌜ (n ≡ length (answersFrom (closed eight) (linesOf (now (input .entry))))) × (now (out .exit) ≡ answersFrom (closed eight) (linesOf (now (input .entry))) ++ drop n (now (out .entry))) ⌝ }
+{
+    let mut reader = Reader::new(input);
+    let mut s = changes::all_free(0);
+    let mut pos = 0;
+    loop {
+        let Found::Line(frame) = reader.read() else {
+            return pos;
+        };
+        s = answer(s, frame, out, pos);
+        pos += 11;
+    }
+}
+
+// The same, where the input is not too long; of one that is, the one line that says so.
+fn run_text(input: &[u8], out: &mut [u8]) -> usize
     requires { ⌜ 11 * length (now input) + 11 ≤ length (now out) ⌝ }
     ensures { λ n. ⌜ n ≡ length (runText (now (input .entry))) ⌝ }
     ensures { λ n. ⌜ now (out .exit) ≡ runText (now (input .entry)) ++ drop n (now (out .entry)) ⌝ }
@@ -50,17 +71,7 @@ fn run_lines(input: &[u8], out: &mut [u8]) -> usize
         put(out, 0, frames::too_long_line());
         return 11;
     }
-    let mut s = changes::all_free(0);
-    let mut at = 0;
-    let mut pos = 0;
-    loop {
-        let Found::Line(frame, next) = reader::read_from(input, at) else {
-            return pos;
-        };
-        s = answer(s, frame, out, pos);
-        at = next;
-        pos += 11;
-    }
+    run_lines(input, out)
 }
 
 // How a run went: so many bytes of answers stand at the front of the buffer, or it has no room and is as it was.
@@ -78,6 +89,6 @@ pub fn run(input: &[u8], out: &mut [u8]) -> Ran
     if out.len() / 11 <= input.len() {
         return Ran::NoRoom;
     }
-    let n = run_lines(input, out);
+    let n = run_text(input, out);
     Ran::Wrote(n)
 }

@@ -15,8 +15,8 @@ returns c = (rw (le-ltb _ _ (c .if1 .taken)), (rw (le-ltb _ _ (c .if1 .taken)), 
 returns-2 : tie.Need-returns-2
 unfolding ran written
 returns-2 c =
-    let n = c .before .before .run-lines .ensures .0 in
-    let o = c .before .before .run-lines .ensures .1 in
+    let n = c .before .before .run-text .ensures .0 in
+    let o = c .before .before .run-text .ensures .1 in
     let room = lt-ltb _ _ (c .before .before .before .before .if1 .left) in
     (rw (room, n), (rw (room, ← n) o, omega (arith, simp length-append at (ap length o))))
 
