@@ -28,13 +28,14 @@ use tables::Outcome;
 use tables::Refusal;
 use tables::Reply;
 use tables::State;
+use tables::WORKERS;
 use verdict::Verdict;
 
 // P workers, all free.
 pub fn start(p: u8) -> Reply
     ensures { λ r. ⌜ r ≡ reply (start eight p) ⌝ }
 {
-    let bad = either(p == 0, 8 < p);
+    let bad = either(p == 0, WORKERS < p);
     if bad {
         let refused = changes::unchanged(Outcome::Refused(Refusal::WorkerCount));
         return changes::replied(changes::all_free(0), refused);

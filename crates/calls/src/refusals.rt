@@ -11,10 +11,14 @@ ghost use Rattle.calls.specs.declared.verdict.Verdict.the-variants.{Go};
 ghost use Rattle.calls.specs.Verdicts.{along};
 use super::verdict::Verdict;
 use lookups::Seen;
+use tables::CEILING;
+use tables::ENTRIES;
+use tables::FIRST_WEIGHT;
 use tables::Kind;
 use tables::Message;
 use tables::Refusal;
 use tables::Room;
+use tables::SLOTS;
 use tables::Status;
 use tables::Used;
 
@@ -71,7 +75,7 @@ pub fn send_refusals(sound: bool, p: u8, w: u8, to: u8, k: Kind) -> Verdict
 pub fn slot_refusal(v: Verdict, sends: bool, slot: u8) -> Verdict
     ensures { λ r. ⌜ r ≡ along v (noSlotIf eight sends slot ∷ []) ⌝ }
 {
-    v.refuse_if(numbers::both(sends, 64 <= slot), Refusal::NoSlot)
+    v.refuse_if(numbers::both(sends, SLOTS <= slot), Refusal::NoSlot)
 }
 
 // 12 at the receiver, and 13.
@@ -96,9 +100,9 @@ pub fn by_location_refusals(v: Verdict, u: Used, room: Room) -> Verdict
 {
     let e = u.number;
     let holding = u.holding;
-    let over = 1047552 < parts::entry_weight(holding);
+    let over = CEILING - FIRST_WEIGHT < parts::entry_weight(holding);
     let first = v.refuse_if(over, Refusal::OverCeiling)
-        .refuse_if(16 <= e, Refusal::NoEntry);
+        .refuse_if(ENTRIES <= e, Refusal::NoEntry);
     room_refusals(first, room)
 }
 

@@ -17,9 +17,12 @@ use super::unchanged;
 use super::with_cell_and_message;
 use super::with_entry_and_message;
 use super::with_message;
-use tables::Cell;
+use tables::CEILING;
+use tables::CELLS;
+use tables::CellTable;
 use tables::Effect;
-use tables::Entry;
+use tables::EntryTable;
+use tables::FIRST_WEIGHT;
 use tables::Holding;
 use tables::Kind;
 use tables::Message;
@@ -129,11 +132,15 @@ fn supplied(w: u32, k: Kind) -> Kind
 fn supply_from(weight: u32) -> u32
     ensures { λ r. ⌜ r ≡ min 1024 (1048576 - weight) ⌝ }
 {
-    if 1048576 <= weight {
+    if CEILING <= weight {
         return 0;
     }
-    let left = 1048576 - weight;
-    if 1024 <= left { 1024 } else { left }
+    let left = CEILING - weight;
+    if FIRST_WEIGHT <= left {
+        FIRST_WEIGHT
+    } else {
+        left
+    }
 }
 
 // The entry that an Ask finds gains what it gives.
@@ -155,7 +162,7 @@ fn grown(x: Holding) -> Holding
 }
 
 // The end of the cell that a live entry of worker o names.
-fn entry_end(cells: [Cell; 256], o: u8, x: Holding) -> Kind
+fn entry_end(cells: CellTable, o: u8, x: Holding) -> Kind
     ensures { λ r. ⌜ ((t : Tables) → t .cells ≡ cells → r ≡ entryEnd eight t o x) ⌝ }
 {
     match x {
@@ -168,7 +175,7 @@ fn entry_end(cells: [Cell; 256], o: u8, x: Holding) -> Kind
 }
 
 // The end that a Read comes to; nothing for any other message.
-pub fn read_end(cells: [Cell; 256], entries: [Entry; 128], m: Message) -> Kind
+pub fn read_end(cells: CellTable, entries: EntryTable, m: Message) -> Kind
     ensures { λ r. ⌜ ((t : Tables) → t .cells ≡ cells → t .entries ≡ entries → r ≡ readEnd eight t m) ⌝ }
 {
     match m {
@@ -230,18 +237,18 @@ fn read_on(r: u8, c: u8, m: Message, k: Kind) -> Message
 // ---- each message, in the slot k
 
 // The cell of worker w where a Reference to the entry e of worker o arrives.
-fn arrival_cell(cells: [Cell; 256], w: u8, o: u8, e: u8) -> u8
+fn arrival_cell(cells: CellTable, w: u8, o: u8, e: u8) -> u8
     ensures { λ r. ⌜ ((t : Tables) → t .cells ≡ cells → r ≡ arrivalCell eight t w o e) ⌝ }
 {
     let x = lookups::ex_naming(cells, w, o, e);
-    if x < 32 {
+    if x < CELLS {
         return x;
     }
     lookups::lowest_free_cell(cells, w)
 }
 
 // A Reference at the owner.
-fn deliver_home(entries: [Entry; 128], k: u8, o: u8, e: u8, w: u32) -> Effect
+fn deliver_home(entries: EntryTable, k: u8, o: u8, e: u8, w: u32) -> Effect
     ensures { λ r. ⌜ ((t : Tables) → t .entries ≡ entries → r ≡ deliverHome eight t k o e w) ⌝ }
 {
     let x = lookups::entry_at(entries, o, e);
@@ -251,7 +258,7 @@ fn deliver_home(entries: [Entry; 128], k: u8, o: u8, e: u8, w: u32) -> Effect
 }
 
 // A Reference elsewhere.
-fn deliver_away(cells: [Cell; 256], k: u8, to: u8, o: u8, e: u8, w: u32) -> Effect
+fn deliver_away(cells: CellTable, k: u8, to: u8, o: u8, e: u8, w: u32) -> Effect
     ensures { λ r. ⌜ ((t : Tables) → t .cells ≡ cells → sound eight t ≡ true → w ≤ 1048576 → r ≡ deliverAway eight t k to o e w) ⌝ }
 {
     let c = arrival_cell(cells, to, o, e);
@@ -260,8 +267,8 @@ fn deliver_away(cells: [Cell; 256], k: u8, to: u8, o: u8, e: u8, w: u32) -> Effe
 }
 
 fn deliver_reference(
-    cells: [Cell; 256],
-    entries: [Entry; 128],
+    cells: CellTable,
+    entries: EntryTable,
     k: u8,
     to: u8,
     o: u8,
@@ -276,7 +283,7 @@ fn deliver_reference(
     deliver_away(cells, k, to, o, e, w)
 }
 
-fn deliver_release(entries: [Entry; 128], k: u8, o: u8, e: u8, w: u32) -> Effect
+fn deliver_release(entries: EntryTable, k: u8, o: u8, e: u8, w: u32) -> Effect
     ensures { λ r. ⌜ ((t : Tables) → t .entries ≡ entries → r ≡ deliverRelease eight t k o e w) ⌝ }
 {
     let left = taken_off(w, lookups::entry_at(entries, o, e));
@@ -296,21 +303,21 @@ fn deliver_read(k: u8, r: u8, c: u8, o: u8, e: u8, end: Kind) -> Effect
     with_message(Outcome::Done(0), k, read_on(r, c, m, end))
 }
 
-fn deliver_answer(cells: [Cell; 256], k: u8, r: u8, c: u8, v: u32) -> Effect
+fn deliver_answer(cells: CellTable, k: u8, r: u8, c: u8, v: u32) -> Effect
     ensures { λ q. ⌜ ((t : Tables) → t .cells ≡ cells → q ≡ deliverAnswer eight t k r c v) ⌝ }
 {
     let ex = known(v, lookups::cell_at(cells, r, c));
     with_cell_and_message(Outcome::Done(c as u32), r, c, ex, k, Message::Empty)
 }
 
-fn deliver_supply(cells: [Cell; 256], k: u8, a: u8, c: u8, w: u32) -> Effect
+fn deliver_supply(cells: CellTable, k: u8, a: u8, c: u8, w: u32) -> Effect
     ensures { λ r. ⌜ ((t : Tables) → t .cells ≡ cells → sound eight t ≡ true → w ≤ 1048576 → r ≡ deliverSupply eight t k a c w) ⌝ }
 {
     let ex = supplied(w, lookups::cell_at(cells, a, c));
     with_cell_and_message(Outcome::Done(c as u32), a, c, ex, k, Message::Empty)
 }
 
-fn deliver_ask(entries: [Entry; 128], k: u8, a: u8, c: u8, o: u8, e: u8) -> Effect
+fn deliver_ask(entries: EntryTable, k: u8, a: u8, c: u8, o: u8, e: u8) -> Effect
     ensures { λ r. ⌜ ((t : Tables) → t .entries ≡ entries → r ≡ deliverAsk eight t k a c o e) ⌝ }
 {
     let x = lookups::entry_at(entries, o, e);
@@ -324,8 +331,8 @@ fn deliver_ask(entries: [Entry; 128], k: u8, a: u8, c: u8, o: u8, e: u8) -> Effe
 
 // The message m in the slot k, which comes to this end if it is a Read.
 pub fn deliver_message(
-    cells: [Cell; 256],
-    entries: [Entry; 128],
+    cells: CellTable,
+    entries: EntryTable,
     k: u8,
     m: Message,
     end: Kind,

@@ -12,16 +12,24 @@ ghost use Rattle.rules.specs.Calls.{byLocation, byReference, exportEnd, transfe
 
 pub mod deliveries;
 
+use tables::ALL_CELLS;
+use tables::ALL_ENTRIES;
+use tables::ALL_SLOTS;
+use tables::CEILING;
 use tables::Cell;
 use tables::Change;
+use tables::ENTRIES;
 use tables::Effect;
 use tables::Entry;
+use tables::EntryTable;
+use tables::FIRST_WEIGHT;
 use tables::Holding;
 use tables::Kind;
 use tables::Message;
 use tables::Outcome;
 use tables::Reply;
 use tables::Slot;
+use tables::SlotTable;
 use tables::State;
 use tables::Status;
 use tables::Used;
@@ -30,13 +38,13 @@ use tables::Used;
 pub fn all_free(p: u8) -> State
     ensures { λ r. ⌜ r ≡ state (allFree eight p) ⌝ }
 {
-    let cells = [Cell { kind: Kind::Free }; 256];
+    let cells = [Cell { kind: Kind::Free }; ALL_CELLS];
     let entries = [Entry {
         holding: Holding::Unused,
-    }; 128];
+    }; ALL_ENTRIES];
     let slots = [Slot {
         message: Message::Empty,
-    }; 64];
+    }; ALL_SLOTS];
     State {
         p: p,
         cells: cells,
@@ -49,10 +57,10 @@ pub fn all_free(p: u8) -> State
 fn add_weights(a: u32, b: u32) -> u32
     ensures { λ r. ⌜ (a ≤ 1048576 → b ≤ 1048576 → r ≡ a + b) ⌝ }
 {
-    if 1048576 < a {
+    if CEILING < a {
         return a;
     }
-    if 1048576 < b {
+    if CEILING < b {
         return a;
     }
     a + b
@@ -181,18 +189,18 @@ pub fn replied(s: State, d: Effect) -> Reply
 // ---- export, indirect, transfer
 
 // The number of the entry of the cell c, or of the lowest free one.
-fn entry_to_use(entries: [Entry; 128], w: u8, c: u8) -> u8
+fn entry_to_use(entries: EntryTable, w: u8, c: u8) -> u8
     ensures { λ r. ⌜ ((t : Tables) → t .entries ≡ entries → r ≡ entryToUse eight t w c) ⌝ }
 {
     let own = lookups::entry_of(entries, w, c);
-    if own < 16 {
+    if own < ENTRIES {
         return own;
     }
     lookups::lowest_free_entry(entries, w)
 }
 
 // That entry.
-pub fn use_entry(entries: [Entry; 128], w: u8, c: u8) -> Used
+pub fn use_entry(entries: EntryTable, w: u8, c: u8) -> Used
     ensures { λ r. ⌜ ((t : Tables) → t .entries ≡ entries → r ≡ used eight t w c) ⌝ }
 {
     let e = entry_to_use(entries, w, c);
@@ -210,7 +218,7 @@ fn gains(c: u8, taint: bool, x: Holding) -> Holding
     match x {
         Holding::Unused => Holding::Live {
             cell: c,
-            weight: 1024,
+            weight: FIRST_WEIGHT,
             tainted: taint,
         },
         Holding::Live {
@@ -219,7 +227,7 @@ fn gains(c: u8, taint: bool, x: Holding) -> Holding
             tainted,
         } => Holding::Live {
             cell: cell,
-            weight: add_weights(weight, 1024),
+            weight: add_weights(weight, FIRST_WEIGHT),
             tainted: tainted,
         },
     }
@@ -236,7 +244,7 @@ pub fn by_location(w: u8, x: u8, to: u8, taint: bool, u: Used, slot: u8) -> Effe
         to: to,
         owner: w,
         entry: e,
-        weight: 1024,
+        weight: FIRST_WEIGHT,
     };
     with_entry_and_message(Outcome::Done(slot as u32), w, e, gained, slot, m)
 }
@@ -474,12 +482,12 @@ fn costs(live: u8, m: Message) -> u32
 }
 
 // B.
-pub fn all_costs(entries: [Entry; 128], slots: [Slot; 64]) -> u32
+pub fn all_costs(entries: EntryTable, slots: SlotTable) -> u32
     ensures { λ r. ⌜ ((t : Tables) → t .entries ≡ entries → t .slots ≡ slots → r ≡ B eight t) ⌝ }
 {
     let live = lookups::live_entries(entries);
     let mut n: u32 = 0;
-    for k in 0..64usize {
+    for k in 0..ALL_SLOTS {
         let x = slots[k];
         let m = x.message;
         n += costs(live, m);

@@ -10,50 +10,61 @@ ghost use Rattle.lookups.specs.Sought.{isSought, isSoughtEntry, seen};
 use numbers::bit_of;
 use numbers::both;
 use numbers::either;
+use tables::ALL_ENTRIES;
+use tables::ALL_SLOTS;
+use tables::CELL_ROW;
+use tables::CELLS;
 use tables::Cell;
+use tables::CellTable;
+use tables::ENTRIES;
+use tables::ENTRY_ROW;
 use tables::Entry;
+use tables::EntryTable;
 use tables::Holding;
 use tables::Kind;
 use tables::Message;
 use tables::Room;
+use tables::SLOTS;
 use tables::Slot;
+use tables::SlotTable;
 use tables::State;
+use tables::WORKERS;
 
 // ---- what stands in the tables
 
 // What the cell c of worker w holds.
-pub fn cell_at(cells: [Cell; 256], w: u8, c: u8) -> Kind
+pub fn cell_at(cells: CellTable, w: u8, c: u8) -> Kind
     ensures { λ r. ⌜ ((t : Tables) → t .cells ≡ cells → r ≡ cell eight t w c) ⌝ }
 {
-    if 8 <= w {
+    if WORKERS <= w {
         return Kind::Free;
     }
-    if 32 <= c {
+    if CELLS <= c {
         return Kind::Free;
     }
-    let x = cells[w as usize * 32 + c as usize];
+    let x = cells[w as usize * CELL_ROW + c as usize];
     x.kind
 }
 
 // What the entry e of worker w holds.
-pub fn entry_at(entries: [Entry; 128], w: u8, e: u8) -> Holding
+pub fn entry_at(entries: EntryTable, w: u8, e: u8) -> Holding
     ensures { λ r. ⌜ ((t : Tables) → t .entries ≡ entries → r ≡ entry eight t w e) ⌝ }
 {
-    if 8 <= w {
+    if WORKERS <= w {
         return Holding::Unused;
     }
-    if 16 <= e {
+    if ENTRIES <= e {
         return Holding::Unused;
     }
-    let x = entries[w as usize * 16 + e as usize];
+    let x = entries[w as usize * ENTRY_ROW + e as usize];
     x.holding
 }
 
 // What the slot k holds.
-pub fn message_at(slots: [Slot; 64], k: u8) -> Message
+pub fn message_at(slots: SlotTable, k: u8) -> Message
     ensures { λ r. ⌜ ((t : Tables) → t .slots ≡ slots → r ≡ message t k) ⌝ }
 {
-    if 64 <= k {
+    if SLOTS <= k {
         return Message::Empty;
     }
     let x = slots[k as usize];
@@ -66,14 +77,14 @@ pub fn message_at(slots: [Slot; 64], k: u8) -> Message
 pub fn put_cell(s: State, w: u8, c: u8, k: Kind) -> State
     ensures { λ r. ⌜ r ≡ state (putCell eight (tables s) w c k) ⌝ }
 {
-    if 8 <= w {
+    if WORKERS <= w {
         return s;
     }
-    if 32 <= c {
+    if CELLS <= c {
         return s;
     }
     let mut next = s;
-    next.cells[w as usize * 32 + c as usize] = Cell { kind: k };
+    next.cells[w as usize * CELL_ROW + c as usize] = Cell { kind: k };
     next
 }
 
@@ -81,14 +92,14 @@ pub fn put_cell(s: State, w: u8, c: u8, k: Kind) -> State
 pub fn put_entry(s: State, w: u8, e: u8, x: Holding) -> State
     ensures { λ r. ⌜ r ≡ state (putEntry eight (tables s) w e x) ⌝ }
 {
-    if 8 <= w {
+    if WORKERS <= w {
         return s;
     }
-    if 16 <= e {
+    if ENTRIES <= e {
         return s;
     }
     let mut next = s;
-    next.entries[w as usize * 16 + e as usize] = Entry { holding: x };
+    next.entries[w as usize * ENTRY_ROW + e as usize] = Entry { holding: x };
     next
 }
 
@@ -96,7 +107,7 @@ pub fn put_entry(s: State, w: u8, e: u8, x: Holding) -> State
 pub fn put_message(s: State, k: u8, m: Message) -> State
     ensures { λ r. ⌜ r ≡ state (putMessage (tables s) k m) ⌝ }
 {
-    if 64 <= k {
+    if SLOTS <= k {
         return s;
     }
     let mut next = s;
@@ -114,7 +125,7 @@ pub struct Seen {
 }
 
 // The cell c of worker w, and its end.
-pub fn see(cells: [Cell; 256], w: u8, c: u8) -> Seen
+pub fn see(cells: CellTable, w: u8, c: u8) -> Seen
     ensures { λ r. ⌜ ((t : Tables) → t .cells ≡ cells → r ≡ seen eight t w c) ⌝ }
 {
     let nothing = Seen {
@@ -122,23 +133,23 @@ pub fn see(cells: [Cell; 256], w: u8, c: u8) -> Seen
         end: c,
         ending: Kind::Free,
     };
-    if 8 <= w {
+    if WORKERS <= w {
         return nothing;
     }
-    if 32 <= c {
+    if CELLS <= c {
         return nothing;
     }
-    let x = cells[w as usize * 32 + c as usize];
+    let x = cells[w as usize * CELL_ROW + c as usize];
     let k = x.kind;
     let end = parts::end_from(k, c);
-    if 32 <= end {
+    if CELLS <= end {
         return Seen {
             kind: k,
             end: end,
             ending: Kind::Free,
         };
     }
-    let y = cells[w as usize * 32 + end as usize];
+    let y = cells[w as usize * CELL_ROW + end as usize];
     let ending = y.kind;
     Seen {
         kind: k,
@@ -148,7 +159,7 @@ pub fn see(cells: [Cell; 256], w: u8, c: u8) -> Seen
 }
 
 // k is an EX that is safe at worker w.
-pub fn is_safe(entries: [Entry; 128], w: u8, k: Kind) -> bool
+pub fn is_safe(entries: EntryTable, w: u8, k: Kind) -> bool
     ensures { λ r. ⌜ ((t : Tables) → t .entries ≡ entries → r ≡ safe eight t w k) ⌝ }
 {
     match k {
@@ -186,41 +197,41 @@ fn is_sought(q: SoughtCell, k: Kind) -> bool
 }
 
 // The lowest such cell of worker w, 32 where there is none.
-fn lowest_cell(cells: [Cell; 256], w: u8, q: SoughtCell) -> u8
+fn lowest_cell(cells: CellTable, w: u8, q: SoughtCell) -> u8
     ensures { λ r. ⌜ ((t : Tables) → t .cells ≡ cells → r ≡ lowest 32 (λ c. isSought q (cell eight t w c))) ⌝ }
 {
-    if 8 <= w {
+    if WORKERS <= w {
         if is_sought(q, Kind::Free) {
             return 0;
         }
-        return 32;
+        return CELLS;
     }
-    for d in 0..32u8 {
-        let x = cells[w as usize * 32 + d as usize];
+    for d in 0..CELLS {
+        let x = cells[w as usize * CELL_ROW + d as usize];
         let k = x.kind;
         if is_sought(q, k) {
             return d;
         }
     }
-    32
+    CELLS
 }
 
 // The lowest free cell of worker w, 32 where there is none.
-pub fn lowest_free_cell(cells: [Cell; 256], w: u8) -> u8
+pub fn lowest_free_cell(cells: CellTable, w: u8) -> u8
     ensures { λ r. ⌜ ((t : Tables) → t .cells ≡ cells → r ≡ lowestFreeCell eight t w) ⌝ }
 {
     lowest_cell(cells, w, SoughtCell::FreeCell)
 }
 
 // A REF of worker w names its cell c.
-fn is_referred(cells: [Cell; 256], w: u8, c: u8) -> bool
+fn is_referred(cells: CellTable, w: u8, c: u8) -> bool
     ensures { λ r. ⌜ ((t : Tables) → t .cells ≡ cells → r ≡ referred eight t w c) ⌝ }
 {
-    lowest_cell(cells, w, SoughtCell::RefTo(c)) < 32
+    lowest_cell(cells, w, SoughtCell::RefTo(c)) < CELLS
 }
 
 // The EX of worker w that names the entry e of worker o, 32 where there is none.
-pub fn ex_naming(cells: [Cell; 256], w: u8, o: u8, e: u8) -> u8
+pub fn ex_naming(cells: CellTable, w: u8, o: u8, e: u8) -> u8
     ensures { λ r. ⌜ ((t : Tables) → t .cells ≡ cells → r ≡ exNaming eight t w o e) ⌝ }
 {
     lowest_cell(cells, w, SoughtCell::ExOf { owner: o, entry: e })
@@ -245,50 +256,50 @@ fn is_sought_entry(q: SoughtEntry, x: Holding) -> bool
 }
 
 // The lowest such entry of worker w, 16 where there is none.
-fn lowest_entry(entries: [Entry; 128], w: u8, q: SoughtEntry) -> u8
+fn lowest_entry(entries: EntryTable, w: u8, q: SoughtEntry) -> u8
     ensures { λ r. ⌜ ((t : Tables) → t .entries ≡ entries → r ≡ lowest 16 (λ e. isSoughtEntry q (entry eight t w e))) ⌝ }
 {
-    if 8 <= w {
+    if WORKERS <= w {
         if is_sought_entry(q, Holding::Unused) {
             return 0;
         }
-        return 16;
+        return ENTRIES;
     }
-    for e in 0..16u8 {
-        let x = entries[w as usize * 16 + e as usize];
+    for e in 0..ENTRIES {
+        let x = entries[w as usize * ENTRY_ROW + e as usize];
         let holding = x.holding;
         if is_sought_entry(q, holding) {
             return e;
         }
     }
-    16
+    ENTRIES
 }
 
 // The lowest free entry of worker w, 16 where there is none.
-pub fn lowest_free_entry(entries: [Entry; 128], w: u8) -> u8
+pub fn lowest_free_entry(entries: EntryTable, w: u8) -> u8
     ensures { λ r. ⌜ ((t : Tables) → t .entries ≡ entries → r ≡ lowestFreeEntry eight t w) ⌝ }
 {
     lowest_entry(entries, w, SoughtEntry::FreeEntry)
 }
 
 // The live entry of worker w that names its cell c, 16 where there is none.
-pub fn entry_of(entries: [Entry; 128], w: u8, c: u8) -> u8
+pub fn entry_of(entries: EntryTable, w: u8, c: u8) -> u8
     ensures { λ r. ⌜ ((t : Tables) → t .entries ≡ entries → r ≡ entryOf eight t w c) ⌝ }
 {
     lowest_entry(entries, w, SoughtEntry::EntryOf(c))
 }
 
 // A live entry of worker w names its cell c.
-pub fn is_exported(entries: [Entry; 128], w: u8, c: u8) -> bool
+pub fn is_exported(entries: EntryTable, w: u8, c: u8) -> bool
     ensures { λ r. ⌜ ((t : Tables) → t .entries ≡ entries → r ≡ exported eight t w c) ⌝ }
 {
-    entry_of(entries, w, c) < 16
+    entry_of(entries, w, c) < ENTRIES
 }
 
 // ---- busy, and an empty slot
 
 // A live entry or a REF names the cell c of worker w, which holds k, or k is an EX that is reading or asking.
-pub fn is_busy(cells: [Cell; 256], entries: [Entry; 128], w: u8, c: u8, k: Kind) -> bool
+pub fn is_busy(cells: CellTable, entries: EntryTable, w: u8, c: u8, k: Kind) -> bool
     ensures { λ r. ⌜ ((t : Tables) → t .cells ≡ cells → t .entries ≡ entries → k ≡ cell eight t w c → r ≡ busy eight t w c) ⌝ }
 {
     let named = either(is_exported(entries, w, c), is_referred(cells, w, c));
@@ -296,31 +307,31 @@ pub fn is_busy(cells: [Cell; 256], entries: [Entry; 128], w: u8, c: u8, k: Kind)
 }
 
 // The lowest empty slot, 64 where there is none.
-pub fn lowest_empty_slot(slots: [Slot; 64]) -> u8
+pub fn lowest_empty_slot(slots: SlotTable) -> u8
     ensures { λ r. ⌜ ((t : Tables) → t .slots ≡ slots → r ≡ lowestEmptySlot eight t) ⌝ }
 {
-    for k in 0..64u8 {
+    for k in 0..SLOTS {
         let x = slots[k as usize];
         let m = x.message;
         if parts::is_empty(m) {
             return k;
         }
     }
-    64
+    SLOTS
 }
 
 // ---- counts
 
 // How many cells of worker w are free.
-pub fn free_cells(cells: [Cell; 256], w: u8) -> u8
+pub fn free_cells(cells: CellTable, w: u8) -> u8
     ensures { λ r. ⌜ ((t : Tables) → t .cells ≡ cells → r ≡ freeCells eight t w) ⌝ }
 {
-    if 8 <= w {
-        return 32;
+    if WORKERS <= w {
+        return CELLS;
     }
     let mut n: u8 = 0;
-    for c in 0..32u8 {
-        let x = cells[w as usize * 32 + c as usize];
+    for c in 0..CELLS {
+        let x = cells[w as usize * CELL_ROW + c as usize];
         let k = x.kind;
         n += bit_of(parts::is_free(k));
     }
@@ -328,11 +339,11 @@ pub fn free_cells(cells: [Cell; 256], w: u8) -> u8
 }
 
 // How many Reference messages go to worker w.
-pub fn booked(slots: [Slot; 64], w: u8) -> u8
+pub fn booked(slots: SlotTable, w: u8) -> u8
     ensures { λ r. ⌜ ((t : Tables) → t .slots ≡ slots → r ≡ booked t w) ⌝ }
 {
     let mut n: u8 = 0;
-    for k in 0..64usize {
+    for k in 0..ALL_SLOTS {
         let x = slots[k];
         let m = x.message;
         n += bit_of(parts::goes_to(w, m));
@@ -341,11 +352,11 @@ pub fn booked(slots: [Slot; 64], w: u8) -> u8
 }
 
 // How many entries are live.
-pub fn live_entries(entries: [Entry; 128]) -> u8
+pub fn live_entries(entries: EntryTable) -> u8
     ensures { λ r. ⌜ ((t : Tables) → t .entries ≡ entries → r ≡ liveEntries t) ⌝ }
 {
     let mut n: u8 = 0;
-    for i in 0..128usize {
+    for i in 0..ALL_ENTRIES {
         let x = entries[i];
         let holding = x.holding;
         n += bit_of(parts::is_live(holding));
@@ -356,7 +367,7 @@ pub fn live_entries(entries: [Entry; 128]) -> u8
 // ---- what is looked at where a message is sent
 
 // The room for a Reference to worker w.
-pub fn room_at(cells: [Cell; 256], slots: [Slot; 64], w: u8) -> Room
+pub fn room_at(cells: CellTable, slots: SlotTable, w: u8) -> Room
     ensures { λ r. ⌜ ((t : Tables) → t .cells ≡ cells → t .slots ≡ slots → r ≡ room eight t w) ⌝ }
 {
     let free = free_cells(cells, w);

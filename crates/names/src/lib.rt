@@ -6,6 +6,10 @@ ghost use Rattle.names.specs.Names.{cellNamesSeen, namesNothing, safeSee
 use numbers::bit_of;
 use numbers::both;
 use numbers::either;
+use tables::ALL_CELLS;
+use tables::ALL_ENTRIES;
+use tables::CELL_ROW;
+use tables::ENTRY_ROW;
 use tables::Holding;
 use tables::Kind;
 use tables::State;
@@ -45,13 +49,13 @@ pub fn point_2(s: State) -> bool
     ensures { λ r. ⌜ r ≡ point2 eight (tables s) ⌝ }
 {
     let mut good = true;
-    for i in 0..256usize {
+    for i in 0..ALL_CELLS {
         let x = s.cells[i];
         let k = x.kind;
         if names_nothing(k) {
             continue;
         }
-        let w = (i / 32) as u8;
+        let w = (i / CELL_ROW) as u8;
         let d = parts::end_from(k, 0);
         let j = places::cell_index(w, d);
         let y = s.cells[j];
@@ -61,8 +65,8 @@ pub fn point_2(s: State) -> bool
         let z = s.entries[h];
         let holding = z.holding;
         let mut twins: u8 = 0;
-        for c in 0..32usize {
-            let other = s.cells[i / 32 * 32 + c];
+        for c in 0..CELL_ROW {
+            let other = s.cells[i / CELL_ROW * CELL_ROW + c];
             let kind = other.kind;
             twins += bit_of(places::names_place(at, kind));
         }
@@ -104,13 +108,13 @@ pub fn point_3(s: State) -> bool
     ensures { λ r. ⌜ r ≡ point3 eight (tables s) ⌝ }
 {
     let mut good = true;
-    for i in 0..128usize {
+    for i in 0..ALL_ENTRIES {
         let x = s.entries[i];
         let holding = x.holding;
         if parts::is_unused(holding) {
             continue;
         }
-        let w = (i / 16) as u8;
+        let w = (i / ENTRY_ROW) as u8;
         let c = parts::cell_of(holding);
         let j = places::cell_index(w, c);
         let y = s.cells[j];
@@ -126,8 +130,8 @@ pub fn point_3(s: State) -> bool
         let v = s.entries[h];
         let beyond = v.holding;
         let mut twins: u8 = 0;
-        for e in 0..16usize {
-            let other = s.entries[i / 16 * 16 + e];
+        for e in 0..ENTRY_ROW {
+            let other = s.entries[i / ENTRY_ROW * ENTRY_ROW + e];
             let named = other.holding;
             twins += bit_of(parts::entry_names(c, named));
         }

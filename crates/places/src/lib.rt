@@ -5,33 +5,38 @@ ghost use Prim.Native.Nat.{_<_};
 ghost use Rattle.tables.specs.declared.Place.the-variants.{At};
 ghost use Rattle.tables.specs.Machine.{eight};
 ghost use Rattle.places.specs.Places.{cellIndex, cellSeen, placeIndex, placeSeen, namesPlace, waiterOf, cellFor};
+use tables::CELL_ROW;
+use tables::CELLS;
+use tables::ENTRIES;
+use tables::ENTRY_ROW;
 use tables::Holding;
 use tables::Kind;
 use tables::Message;
 use tables::Place;
+use tables::WORKERS;
 
 // Where the cell c of worker w is read.
 pub fn cell_index(w: u8, c: u8) -> usize
     ensures { λ r. ⌜ r ≡ cellIndex eight w c ⌝ }
     ensures { λ r. ⌜ r < 256 ⌝ }
 {
-    if 8 <= w {
+    if WORKERS <= w {
         return 0;
     }
-    if 32 <= c {
+    if CELLS <= c {
         return 0;
     }
-    w as usize * 32 + c as usize
+    w as usize * CELL_ROW + c as usize
 }
 
 // What the cell c of worker w holds, where k is read.
 pub fn cell_seen(w: u8, c: u8, k: Kind) -> Kind
     ensures { λ r. ⌜ r ≡ cellSeen eight w c k ⌝ }
 {
-    if 8 <= w {
+    if WORKERS <= w {
         return Kind::Free;
     }
-    if 32 <= c {
+    if CELLS <= c {
         return Kind::Free;
     }
     k
@@ -41,22 +46,22 @@ fn entry_index(w: u8, e: u8) -> usize
     ensures { λ r. ⌜ r ≡ placeIndex eight (At w e) ⌝ }
     ensures { λ r. ⌜ r < 128 ⌝ }
 {
-    if 8 <= w {
+    if WORKERS <= w {
         return 0;
     }
-    if 16 <= e {
+    if ENTRIES <= e {
         return 0;
     }
-    w as usize * 16 + e as usize
+    w as usize * ENTRY_ROW + e as usize
 }
 
 fn entry_seen(w: u8, e: u8, x: Holding) -> Holding
     ensures { λ r. ⌜ r ≡ placeSeen eight (At w e) x ⌝ }
 {
-    if 8 <= w {
+    if WORKERS <= w {
         return Holding::Unused;
     }
-    if 16 <= e {
+    if ENTRIES <= e {
         return Holding::Unused;
     }
     x

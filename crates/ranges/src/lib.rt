@@ -4,15 +4,20 @@ ghost use Rattle.tables.specs.Machine.{Tables, eight, tables};
 ghost use Rattle.rules.specs.Sound.{point1, eachCell, eachEntry, eachMessage};
 ghost use Rattle.rules.specs.Sound.{kindInRange, holdingInRange, messageInRange, cellInRange, entryInRange};
 use numbers::both;
+use tables::ALL_CELLS;
+use tables::ALL_ENTRIES;
+use tables::ALL_SLOTS;
 use tables::CEILING;
+use tables::CELL_ROW;
 use tables::CELLS;
-use tables::Cell;
+use tables::CellTable;
 use tables::ENTRIES;
-use tables::Entry;
+use tables::ENTRY_ROW;
+use tables::EntryTable;
 use tables::Holding;
 use tables::Kind;
 use tables::Message;
-use tables::Slot;
+use tables::SlotTable;
 use tables::State;
 use tables::WORKERS;
 
@@ -94,44 +99,44 @@ fn message_in_range(p: u8, m: Message) -> bool
 }
 
 // A free cell is in range; any other stands at a worker below P.
-fn cells_in_range(p: u8, cells: [Cell; 256]) -> bool
+fn cells_in_range(p: u8, cells: CellTable) -> bool
     ensures { λ r. ⌜ ((s : Tables) → s .p ≡ p → s .cells ≡ cells → r ≡ eachCell eight s (cellInRange eight s)) ⌝ }
 {
     let mut good = true;
-    for i in 0..256usize {
+    for i in 0..ALL_CELLS {
         let x = cells[i];
         let k = x.kind;
         if parts::is_free(k) {
             continue;
         }
-        let there = ((i / 32) as u8) < p;
+        let there = ((i / CELL_ROW) as u8) < p;
         good = both(good, both(there, kind_in_range(p, k)));
     }
     good
 }
 
 // The same of entries.
-fn entries_in_range(p: u8, entries: [Entry; 128]) -> bool
+fn entries_in_range(p: u8, entries: EntryTable) -> bool
     ensures { λ r. ⌜ ((s : Tables) → s .p ≡ p → s .entries ≡ entries → r ≡ eachEntry eight s (entryInRange eight s)) ⌝ }
 {
     let mut good = true;
-    for i in 0..128usize {
+    for i in 0..ALL_ENTRIES {
         let x = entries[i];
         let holding = x.holding;
         if parts::is_unused(holding) {
             continue;
         }
-        let there = ((i / 16) as u8) < p;
+        let there = ((i / ENTRY_ROW) as u8) < p;
         good = both(good, both(there, holding_in_range(holding)));
     }
     good
 }
 
-fn messages_in_range(p: u8, slots: [Slot; 64]) -> bool
+fn messages_in_range(p: u8, slots: SlotTable) -> bool
     ensures { λ r. ⌜ ((s : Tables) → s .p ≡ p → s .slots ≡ slots → r ≡ eachMessage eight s (messageInRange eight s)) ⌝ }
 {
     let mut good = true;
-    for i in 0..64usize {
+    for i in 0..ALL_SLOTS {
         let x = slots[i];
         let m = x.message;
         good = both(good, message_in_range(p, m));

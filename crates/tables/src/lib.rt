@@ -9,6 +9,17 @@ pub const ENTRIES: u8 = 16;
 
 pub const SLOTS: u8 = 64;
 
+// The same to reckon places with: cells and entries of one worker, and those of all.
+pub const CELL_ROW: usize = 32;
+
+pub const ENTRY_ROW: usize = 16;
+
+pub const ALL_CELLS: usize = 256;
+
+pub const ALL_ENTRIES: usize = 128;
+
+pub const ALL_SLOTS: usize = 64;
+
 // The weight of a first reference, and the ceiling of an entry's weight.
 pub const FIRST_WEIGHT: u32 = 1024;
 
@@ -96,12 +107,18 @@ pub struct Slot {
     pub message: Message,
 }
 
-// P workers; cell c of worker w stands at w * 32 + c, entry e at w * 16 + e.
+pub type CellTable = [Cell; ALL_CELLS];
+
+pub type EntryTable = [Entry; ALL_ENTRIES];
+
+pub type SlotTable = [Slot; ALL_SLOTS];
+
+// P workers; cell c of worker w stands at w * CELL_ROW + c, entry e at w * ENTRY_ROW + e.
 pub struct State {
     pub p: u8,
-    pub cells: [Cell; 256],
-    pub entries: [Entry; 128],
-    pub slots: [Slot; 64],
+    pub cells: CellTable,
+    pub entries: EntryTable,
+    pub slots: SlotTable,
 }
 
 // Where a walk along references stands: at an entry of an owner's, or nowhere.

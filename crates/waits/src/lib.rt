@@ -10,11 +10,18 @@ ghost use Rattle.waits.specs.Waits.{namedEntry, messageSeen};
 use numbers::bit_of;
 use numbers::both;
 use numbers::either;
+use tables::ALL_CELLS;
+use tables::ALL_ENTRIES;
+use tables::ALL_SLOTS;
+use tables::CELL_ROW;
+use tables::ENTRIES;
+use tables::ENTRY_ROW;
 use tables::Holding;
 use tables::Kind;
 use tables::Message;
 use tables::Place;
 use tables::State;
+use tables::WORKERS;
 
 // ---- each reading EX has exactly one Read or Answer, each asking EX exactly one Ask or Supply
 
@@ -53,7 +60,7 @@ fn cells_awaited(s: State) -> bool
     ensures { λ r. ⌜ r ≡ eachCell eight (tables s) (cellAwaited eight (tables s)) ⌝ }
 {
     let mut good = true;
-    for i in 0..256usize {
+    for i in 0..ALL_CELLS {
         let x = s.cells[i];
         let k = x.kind;
         let reading = parts::is_reading(k);
@@ -61,11 +68,11 @@ fn cells_awaited(s: State) -> bool
         if !either(reading, asking) {
             continue;
         }
-        let w = (i / 32) as u8;
-        let c = (i % 32) as u8;
+        let w = (i / CELL_ROW) as u8;
+        let c = (i % CELL_ROW) as u8;
         let mut reads: u8 = 0;
         let mut asks: u8 = 0;
-        for j in 0..64usize {
+        for j in 0..ALL_SLOTS {
             let y = s.slots[j];
             let m = y.message;
             reads += bit_of(reads_for(w, c, m));
@@ -86,7 +93,7 @@ pub struct Step {
 
 // The steps of all entries, entry e of worker w at w * 16 + e.
 pub struct Steps {
-    pub steps: [Step; 128],
+    pub steps: [Step; ALL_ENTRIES],
 }
 
 // The step from each entry, to what the end of its cell names. A free entry leads nowhere.
@@ -96,9 +103,9 @@ fn steps_of(s: State) -> Steps
     let mut t = Steps {
         steps: [Step {
             next: Place::Nowhere,
-        }; 128],
+        }; ALL_ENTRIES],
     };
-    for i in 0..128usize {
+    for i in 0..ALL_ENTRIES {
         let x = s.entries[i];
         let holding = x.holding;
         if parts::is_unused(holding) {
@@ -107,7 +114,7 @@ fn steps_of(s: State) -> Steps
             };
             continue;
         }
-        let w = (i / 16) as u8;
+        let w = (i / ENTRY_ROW) as u8;
         let c = parts::cell_of(holding);
         let j = places::cell_index(w, c);
         let y = s.cells[j];
@@ -126,10 +133,10 @@ fn steps_of(s: State) -> Steps
 fn next_at(o: u8, e: u8, next: Place) -> Place
     ensures { λ r. ⌜ r ≡ nextSeen eight (At o e) next ⌝ }
 {
-    if 8 <= o {
+    if WORKERS <= o {
         return Place::Nowhere;
     }
-    if 16 <= e {
+    if ENTRIES <= e {
         return Place::Nowhere;
     }
     next
@@ -150,7 +157,7 @@ fn reached(t: Steps, from: Place, o: u8, e: u8) -> bool
     ensures { λ r. ⌜ r ≡ walkMeets (isAt o e) (stepBy eight (t .steps)) 128 from ⌝ }
 {
     let mut at = from;
-    for i in 0..128usize {
+    for i in 0..ALL_ENTRIES {
         if parts::is_at(o, e, at) {
             return true;
         }
@@ -221,7 +228,7 @@ fn messages_have_theirs(s: State) -> bool
 {
     let t = steps_of(s);
     let mut good = true;
-    for i in 0..64usize {
+    for i in 0..ALL_SLOTS {
         let x = s.slots[i];
         let m = x.message;
         if parts::is_empty(m) {

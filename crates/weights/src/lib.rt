@@ -6,6 +6,11 @@ ghost use Rattle.rules.specs.Sound.{cellHolds, point5, point6};
 ghost use Rattle.weights.specs.Held.{messageHoldsSeen, holdsNothing, weighsSeen};
 use numbers::bit_of;
 use numbers::both;
+use tables::ALL_CELLS;
+use tables::ALL_ENTRIES;
+use tables::ALL_SLOTS;
+use tables::CELLS;
+use tables::ENTRY_ROW;
 use tables::Holding;
 use tables::Kind;
 use tables::Message;
@@ -88,22 +93,22 @@ pub fn point_5(s: State) -> bool
     ensures { λ r. ⌜ r ≡ point5 eight (tables s) ⌝ }
 {
     let mut good = true;
-    for i in 0..128usize {
+    for i in 0..ALL_ENTRIES {
         let x = s.entries[i];
         let holding = x.holding;
         if parts::is_unused(holding) {
             continue;
         }
-        let o = (i / 16) as u8;
-        let e = (i % 16) as u8;
+        let o = (i / ENTRY_ROW) as u8;
+        let e = (i % ENTRY_ROW) as u8;
         let mut in_cells: u64 = 0;
-        for j in 0..256usize {
+        for j in 0..ALL_CELLS {
             let y = s.cells[j];
             let k = y.kind;
             in_cells += cell_holds(o, e, k) as u64;
         }
         let mut in_slots: u64 = 0;
-        for j in 0..64usize {
+        for j in 0..ALL_SLOTS {
             let y = s.slots[j];
             let message = y.message;
             if holds_nothing(message) {
@@ -129,13 +134,13 @@ pub fn point_6(s: State) -> bool
     let mut good = true;
     for w in 0..s.p {
         let mut booked: u8 = 0;
-        for k in 0..64usize {
+        for k in 0..ALL_SLOTS {
             let x = s.slots[k];
             let m = x.message;
             booked += bit_of(parts::goes_to(w, m));
         }
         let mut free: u8 = 0;
-        for c in 0..32u8 {
+        for c in 0..CELLS {
             let j = places::cell_index(w, c);
             let x = s.cells[j];
             let there = x.kind;

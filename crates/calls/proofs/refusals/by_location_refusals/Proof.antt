@@ -4,6 +4,7 @@ use native.Mathlib.Omega.{arith}
 use mathlib.Core.Path.{_≡_}
 use lib.Dec.{ltb}
 use borrow.Author.Tests.{lt-ltb, ltb-true}
+use borrow.Author.Needs.{needs}
 use Rattle.numbers.specs.Tests.{bool-eq}
 use Rattle.calls.specs.Verdicts.{along}
 use Rattle.calls.proofs.refusals.by_location_refusals.Statement.{statement}
@@ -19,6 +20,7 @@ unfolding along
 by-location-refusals-spec =
     tie.close
     (tie.spec
+    (λ c. search needs)
     (λ c κs. tt)
     (λ c κs. tt)
     (λ c κs. tt)
