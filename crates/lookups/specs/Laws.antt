@@ -18,7 +18,7 @@ use Rattle.tables.specs.declared.Holding.the-variants.{Unused}
 use Rattle.tables.specs.declared.Message.{Message}
 use Rattle.tables.specs.declared.Message.the-variants.{Empty}
 use Rattle.tables.specs.declared.Slot.{Slot}
-use Rattle.tables.specs.Machine.{Machine, Tables}
+use Rattle.tables.specs.Machine.{Machine, Tables, withSlots}
 use Rattle.tables.specs.Look.{kindAt, holdingAt, cell, entry, message, putMessage}
 use Rattle.tables.specs.Laws.{cell-in, cell-past, entry-in, entry-past}
 
@@ -92,5 +92,5 @@ message-past s k h = ap (λ (x : Slot). x .message) (sym (List·getD-eq-default 
 pub put-message-past : (s : Tables) (k : ℕ) (m : Message) → length (s .slots) ≤ k → s ≡ putMessage s k m
 unfolding putMessage
 put-message-past s k m h =
-    ap (λ (l : List Slot). record { p = s .p; cells = s .cells; entries = s .entries; slots = l })
+    ap (withSlots s)
     (sym (set-out (s .slots) k (record { message = m }) h))

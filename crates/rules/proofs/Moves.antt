@@ -22,7 +22,7 @@ use Rattle.tables.specs.declared.Holding.{Holding}
 use Rattle.tables.specs.declared.Holding.the-variants.{Unused}
 use Rattle.tables.specs.declared.Message.{Message}
 use Rattle.tables.specs.declared.Message.the-variants.{Empty}
-use Rattle.tables.specs.Machine.{Machine, Tables}
+use Rattle.tables.specs.Machine.{Machine, Tables, withCells, withEntries, withSlots}
 use Rattle.tables.specs.Parts.{readingOf, isFree, isVar, isVal, isReading, isAsking, exNames, isLive, isTainted, entryNames, entryWeight, goesTo, cellOf}
 use Rattle.tables.specs.Look.{cell, entry, exported, busy, booked, freeCells, message, putCell, putEntry, putMessage}
 use Rattle.tables.specs.Laws.{cell-in, entry-in}
@@ -63,25 +63,25 @@ module _ (𝓜 : Machine) (L : Laws 𝓜) (s : Tables) where
   unfolding putCell putMessage
   put-cell-message w c k₀ k i m₀ m a b =
       rw (lt-ltb w (𝓜 .workers) a, lt-ltb c (𝓜 .cells) b)
-      (ap (λ (l : List Entry). record { p = s .p; cells = set (s .cells) (w * 𝓜 .cells + c) (record { kind = k }); entries = l; slots = set (s .slots) i (record { message = m }) }) same-entries)
+      (ap (λ (l : List Entry). putMessage (withEntries (withCells s (set (s .cells) (w * 𝓜 .cells + c) (record { kind = k }))) l) i m) same-entries)
 
   pub put-cell : (w c : ℕ) (k₀ k : Kind) → w < 𝓜 .workers → c < 𝓜 .cells → next 𝓜 s (cellMove 𝓜 s w c k₀ k 0 (message s 0) (message s 0)) ≡ putCell 𝓜 s w c k
   unfolding putCell
   put-cell w c k₀ k a b =
       rw (lt-ltb w (𝓜 .workers) a, lt-ltb c (𝓜 .cells) b)
-      (ap₂ (λ (l : List Entry) (q : List Slot). record { p = s .p; cells = set (s .cells) (w * 𝓜 .cells + c) (record { kind = k }); entries = l; slots = q }) same-entries (set-getD (s .slots) 0 (record { message = Empty })))
+      (ap₂ (λ (l : List Entry) (q : List Slot). withSlots (withEntries (withCells s (set (s .cells) (w * 𝓜 .cells + c) (record { kind = k }))) l) q) same-entries (set-getD (s .slots) 0 (record { message = Empty })))
 
   pub put-entry-message : (o e : ℕ) (x₀ x : Holding) (i : ℕ) (m₀ m : Message) → o < 𝓜 .workers → e < 𝓜 .entries
       → next 𝓜 s (entryMove 𝓜 s o e x₀ x i m₀ m) ≡ putMessage (putEntry 𝓜 s o e x) i m
   unfolding putEntry putMessage
   put-entry-message o e x₀ x i m₀ m a b =
       rw (lt-ltb o (𝓜 .workers) a, lt-ltb e (𝓜 .entries) b)
-      (ap (λ (l : List Cell). record { p = s .p; cells = l; entries = set (s .entries) (o * 𝓜 .entries + e) (record { holding = x }); slots = set (s .slots) i (record { message = m }) }) same-cells)
+      (ap (λ (l : List Cell). putMessage (withEntries (withCells s l) (set (s .entries) (o * 𝓜 .entries + e) (record { holding = x }))) i m) same-cells)
 
   pub put-message : (i : ℕ) (m₀ m : Message) → next 𝓜 s (slotMove 𝓜 s i m₀ m) ≡ putMessage s i m
   unfolding putMessage
   put-message i m₀ m =
-      ap₂ (λ (l : List Cell) (q : List Entry). record { p = s .p; cells = l; entries = q; slots = set (s .slots) i (record { message = m }) }) same-cells same-entries
+      ap₂ (λ (l : List Cell) (q : List Entry). putMessage (withEntries (withCells s l) q) i m) same-cells same-entries
 
   -- ---- a cell and a slot
   pub record CellMoves (w c : ℕ) (k₀ k : Kind) (i : ℕ) (m₀ m : Message) : Type 0 where

@@ -13,7 +13,7 @@ use Rattle.tables.specs.declared.Kind.the-variants.{Ref, Ex}
 use Rattle.tables.specs.declared.Holding.{Holding}
 use Rattle.tables.specs.declared.Message.{Message}
 use Rattle.tables.specs.declared.Place.the-variants.{At}
-use Rattle.tables.specs.Machine.{Machine, Tables}
+use Rattle.tables.specs.Machine.{Machine, Tables, withCells, withEntries, withSlots}
 use Rattle.tables.specs.Parts.{onEx, isFree, isVar, isVal, isReading, isAsking, exNames, isLive, isTainted, entryNames, entryWeight, goesTo, cellOf}
 use Rattle.tables.specs.Look.{cell, entry, safe, exported, busy, booked, freeCells, message}
 use Rattle.rules.specs.Chains.{follow}
@@ -36,12 +36,9 @@ pub record Move : Type 0 where
 
 abbrev pub next : Machine → Tables → Move → Tables
 next 𝓜 s h =
-    record {
-      p = s .p;
-      cells = set (s .cells) (h .w * 𝓜 .cells + h .c) (record { kind = h .k });
-      entries = set (s .entries) (h .o * 𝓜 .entries + h .e) (record { holding = h .x });
-      slots = set (s .slots) (h .i) (record { message = h .m });
-    }
+    let cells = set (s .cells) (h .w * 𝓜 .cells + h .c) (record { kind = h .k }) in
+    let entries = set (s .entries) (h .o * 𝓜 .entries + h .e) (record { holding = h .x }) in
+    withSlots (withEntries (withCells s cells) entries) (set (s .slots) (h .i) (record { message = h .m }))
 
 -- what others see of a cell: not an EX's weight and marks
 abbrev pub shown : Kind → Kind

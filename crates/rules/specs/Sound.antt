@@ -5,14 +5,13 @@ use lib.Dec.{ltb, leb, eqb}
 use Rattle.numbers.specs.Below.{allBelow, countBelow, bit, walkMeets}
 use Rattle.numbers.specs.Lists.{each, total}
 use Rattle.tables.specs.declared.Kind.{Kind}
-use Rattle.tables.specs.declared.Kind.the-variants.{Free, Var, Val, Ref, Ex}
 use Rattle.tables.specs.declared.Holding.{Holding}
 use Rattle.tables.specs.declared.Holding.the-variants.{Unused, Live}
 use Rattle.tables.specs.declared.Message.{Message}
 use Rattle.tables.specs.declared.Message.the-variants.{Empty, Reference, Release, Read, Answer, Ask, Supply}
 use Rattle.tables.specs.declared.Place.{Place}
 use Rattle.tables.specs.Machine.{Machine, Tables}
-use Rattle.tables.specs.Parts.{onEx, isFree, isVar, isVal, isEx, readingOf, isReading, isAsking, exNames, namedBy, isAt, isUnused, isLive, entryNames}
+use Rattle.tables.specs.Parts.{onEx, onNames, isFree, isVar, isVal, isEx, readingOf, isReading, isAsking, exNames, namedBy, isAt, isUnused, isLive, entryNames}
 use Rattle.tables.specs.Look.{cell, entry, endKind, safe, booked, freeCells}
 use Rattle.rules.specs.Chains.{follow}
 
@@ -63,11 +62,7 @@ module _ (𝓜 : Machine) (s : Tables) where
   weightIn n = leb n (𝓜 .ceiling)
 
   abbrev pub kindInRange : Kind → Bool
-  kindInRange Free = true
-  kindInRange Var = true
-  kindInRange (Val n) = true
-  kindInRange (Ref c) = cellIn c
-  kindInRange (Ex o e n st a) = workerIn o && entryIn e && weightIn n
+  kindInRange k = onNames true cellIn (λ o e n st a. workerIn o && entryIn e && weightIn n) k
 
   abbrev pub holdingInRange : Holding → Bool
   holdingInRange Unused = true
@@ -98,11 +93,8 @@ module _ (𝓜 : Machine) (s : Tables) where
   exesNaming w o e = countBelow (𝓜 .cells) (λ c. exNames o e (cell 𝓜 s w c))
 
   abbrev pub cellNames : ℕ → ℕ → Kind → Bool
-  cellNames w c Free = true
-  cellNames w c Var = true
-  cellNames w c (Val n) = true
-  cellNames w c (Ref d) = isEx (cell 𝓜 s w d)
-  cellNames w c (Ex o e n st a) = not (eqb o w) && isLive (entry 𝓜 s o e) && leb 1 n && leb (exesNaming w o e) 1
+  cellNames w c k =
+      onNames true (λ d. isEx (cell 𝓜 s w d)) (λ o e n st a. not (eqb o w) && isLive (entry 𝓜 s o e) && leb 1 n && leb (exesNaming w o e) 1) k
 
   unfoldable pub point2 : Bool
   point2 = eachCell cellNames

@@ -11,7 +11,7 @@ use Rattle.tables.specs.declared.Cell.{Cell}
 use Rattle.tables.specs.declared.Entry.{Entry}
 use Rattle.tables.specs.declared.Slot.{Slot}
 use Rattle.tables.specs.declared.Kind.{Kind}
-use Rattle.tables.specs.declared.Kind.the-variants.{Free, Var, Val, Ref, Ex}
+use Rattle.tables.specs.declared.Kind.the-variants.{Free}
 use Rattle.tables.specs.declared.Holding.{Holding}
 use Rattle.tables.specs.declared.Holding.the-variants.{Unused}
 use Rattle.tables.specs.declared.Message.{Message}
@@ -19,8 +19,8 @@ use Rattle.tables.specs.declared.Message.the-variants.{Empty}
 use Rattle.tables.specs.declared.Room.{Room}
 use Rattle.tables.specs.declared.Change.{Change}
 use Rattle.tables.specs.declared.Change.the-variants.{Nothing, OfCell, OfSlot, OfCellAndSlot, OfEntryAndSlot}
-use Rattle.tables.specs.Machine.{Machine, Tables}
-use Rattle.tables.specs.Parts.{isFree, isReading, isAsking, exNames, refNames, endFrom, isUnused, isLive, isTainted, entryNames, isEmpty, goesTo}
+use Rattle.tables.specs.Machine.{Machine, Tables, withCells, withEntries, withSlots}
+use Rattle.tables.specs.Parts.{onEx, isFree, isReading, isAsking, exNames, refNames, endFrom, isUnused, isLive, isTainted, entryNames, isEmpty, goesTo}
 
 -- ---- what stands at a place of a list
 abbrev pub kindAt : List Cell → ℕ → Kind
@@ -55,11 +55,7 @@ module _ (𝓜 : Machine) (s : Tables) where
 
   -- "An EX is safe if its owner's number is below its worker's and the entry is not tainted."
   unfoldable pub safe : ℕ → Kind → Bool
-  safe w Free = false
-  safe w Var = false
-  safe w (Val n) = false
-  safe w (Ref c) = false
-  safe w (Ex o e n st a) = ltb o w && not (isTainted (entry o e))
+  safe w k = onEx false (λ o e n st a. ltb o w && not (isTainted (entry o e))) k
 
   -- the live entry of worker w that names its cell c; past the last where there is none
   unfoldable pub entryOf : ℕ → ℕ → ℕ
@@ -118,18 +114,17 @@ module _ (𝓜 : Machine) (s : Tables) where
   unfoldable pub putCell : ℕ → ℕ → Kind → Tables
   putCell w c k =
       cond (ltb w (𝓜 .workers) && ltb c (𝓜 .cells))
-      (record { p = s .p; cells = set (s .cells) (w * 𝓜 .cells + c) (record { kind = k }); entries = s .entries; slots = s .slots })
+      (withCells s (set (s .cells) (w * 𝓜 .cells + c) (record { kind = k })))
       s
 
   unfoldable pub putEntry : ℕ → ℕ → Holding → Tables
   putEntry w e x =
       cond (ltb w (𝓜 .workers) && ltb e (𝓜 .entries))
-      (record { p = s .p; cells = s .cells; entries = set (s .entries) (w * 𝓜 .entries + e) (record { holding = x }); slots = s .slots })
+      (withEntries s (set (s .entries) (w * 𝓜 .entries + e) (record { holding = x })))
       s
 
 unfoldable pub putMessage : Tables → ℕ → Message → Tables
-putMessage s k m =
-    record { p = s .p; cells = s .cells; entries = s .entries; slots = set (s .slots) k (record { message = m }) }
+putMessage s k m = withSlots s (set (s .slots) k (record { message = m }))
 
 -- what a call changes, put into the tables
 abbrev pub changed : Machine → Tables → Change → Tables

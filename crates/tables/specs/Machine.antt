@@ -24,6 +24,16 @@ pub record Tables : Type 0 where
   pub entries : List Entry
   pub slots : List Slot
 
+-- The tables with another list of cells, of entries, of slots. Records of tables are built here alone, at the state's view and at the start.
+abbrev pub withCells : Tables → List Cell → Tables
+withCells s l = record { p = s .p; cells = l; entries = s .entries; slots = s .slots }
+
+abbrev pub withEntries : Tables → List Entry → Tables
+withEntries s l = record { p = s .p; cells = s .cells; entries = l; slots = s .slots }
+
+abbrev pub withSlots : Tables → List Slot → Tables
+withSlots s l = record { p = s .p; cells = s .cells; entries = s .entries; slots = l }
+
 -- 8 workers of 32 cells and 16 entries, 64 slots; 1,024 at first, 1,048,576 the ceiling, half rounded down sent on
 abbrev pub eight : Machine
 eight =

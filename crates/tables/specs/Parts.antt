@@ -39,6 +39,10 @@ onRef d f (Val n) = d
 onRef d f (Ref c) = f c
 onRef d f (Ex o e w st a) = d
 
+-- what f makes of a REF's cell, and g of an EX's fields; d of a cell that names nothing: a free one, a VAR, a VAL
+abbrev pub onNames : {A : Type 0} → A → (ℕ → A) → (ℕ → ℕ → ℕ → Status → Bool → A) → Kind → A
+onNames d f g k = onEx (onRef d f k) g k
+
 abbrev pub isFree : Kind → Bool
 isFree Free = true
 isFree Var = false

@@ -1,3 +1,2 @@
 -- Point 4 by a table of steps and by what a loop has read.
-pub mod Steps
 pub mod Waits

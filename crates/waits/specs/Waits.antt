@@ -20,8 +20,8 @@ use Rattle.tables.specs.Look.{messageAt, cell}
 use Rattle.lookups.specs.Laws.{count-total}
 use Rattle.rules.specs.Sound.{readsFor, asksFor, readsOf, asksOf, cellAwaited, messageHasIts}
 use Rattle.places.specs.Places.{waiterOf, cellFor, entryThere}
-use Rattle.waits.specs.declared.Step.{Step}
-use Rattle.waits.specs.Steps.{stepBy, Followed, reached-by}
+use Rattle.chains.specs.declared.Step.{Step}
+use Rattle.chains.specs.Steps.{stepBy, Followed, reached-by}
 
 -- the entry that a message names
 abbrev pub namedEntry : Message → Place

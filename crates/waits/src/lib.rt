@@ -1,27 +1,20 @@
 // Point 4 of a sound state: reading and asking EX and their messages, and what messages name.
 ghost use mathlib.Core.Path.{_≡_};
-ghost use Rattle.numbers.specs.Below.{walkMeets};
-ghost use Rattle.tables.specs.declared.Place.the-variants.{At};
 ghost use Rattle.tables.specs.Machine.{eight, tables};
-ghost use Rattle.tables.specs.Parts.{isAt};
 ghost use Rattle.rules.specs.Sound.{readsFor, asksFor, eachCell, eachMessage, cellAwaited, messageHasIts, point4};
-ghost use Rattle.waits.specs.Steps.{Followed, nextSeen, stepBy};
 ghost use Rattle.waits.specs.Waits.{namedEntry, messageSeen};
+use chains::Steps;
 use numbers::bit_of;
 use numbers::both;
 use numbers::either;
 use tables::ALL_CELLS;
-use tables::ALL_ENTRIES;
 use tables::ALL_SLOTS;
 use tables::CELL_ROW;
-use tables::ENTRIES;
-use tables::ENTRY_ROW;
 use tables::Holding;
 use tables::Kind;
 use tables::Message;
 use tables::Place;
 use tables::State;
-use tables::WORKERS;
 
 // ---- each reading EX has exactly one Read or Answer, each asking EX exactly one Ask or Supply
 
@@ -84,91 +77,6 @@ fn cells_awaited(s: State) -> bool
     good
 }
 
-// ---- one step along ends and references, for each entry
-
-// Where one step leads.
-pub struct Step {
-    pub next: Place,
-}
-
-// The steps of all entries, entry e of worker w at w * 16 + e.
-pub struct Steps {
-    pub steps: [Step; ALL_ENTRIES],
-}
-
-// The step from each entry, to what the end of its cell names. A free entry leads nowhere.
-fn steps_of(s: State) -> Steps
-    ensures { λ r. ⌜ Followed eight (tables s) (r .steps) 128 ⌝ }
-{
-    let mut t = Steps {
-        steps: [Step {
-            next: Place::Nowhere,
-        }; ALL_ENTRIES],
-    };
-    for i in 0..ALL_ENTRIES {
-        let x = s.entries[i];
-        let holding = x.holding;
-        if parts::is_unused(holding) {
-            t.steps[i] = Step {
-                next: Place::Nowhere,
-            };
-            continue;
-        }
-        let w = (i / ENTRY_ROW) as u8;
-        let c = parts::cell_of(holding);
-        let j = places::cell_index(w, c);
-        let y = s.cells[j];
-        let there = y.kind;
-        let k = places::cell_seen(w, c, there);
-        let d = parts::end_from(k, c);
-        let g = places::cell_index(w, d);
-        let z = s.cells[g];
-        let far = z.kind;
-        let next = parts::named_by(places::cell_seen(w, d, far));
-        t.steps[i] = Step { next: next };
-    }
-    t
-}
-
-fn next_at(o: u8, e: u8, next: Place) -> Place
-    ensures { λ r. ⌜ r ≡ nextSeen eight (At o e) next ⌝ }
-{
-    if WORKERS <= o {
-        return Place::Nowhere;
-    }
-    if ENTRIES <= e {
-        return Place::Nowhere;
-    }
-    next
-}
-
-// The place after p, where `next` is read in the table of steps.
-fn next_seen(p: Place, next: Place) -> Place
-    ensures { λ r. ⌜ r ≡ nextSeen eight p next ⌝ }
-{
-    match p {
-        Place::Nowhere => Place::Nowhere,
-        Place::At { owner, entry } => next_at(owner, entry, next),
-    }
-}
-
-// The entry e of worker o is at the place from, or reached from there.
-fn reached(t: Steps, from: Place, o: u8, e: u8) -> bool
-    ensures { λ r. ⌜ r ≡ walkMeets (isAt o e) (stepBy eight (t .steps)) 128 from ⌝ }
-{
-    let mut at = from;
-    for i in 0..ALL_ENTRIES {
-        if parts::is_at(o, e, at) {
-            return true;
-        }
-        let j = places::place_index(at);
-        let x = t.steps[j];
-        let next = x.next;
-        at = next_seen(at, next);
-    }
-    false
-}
-
 // ---- what messages name
 
 // The entry that the message names.
@@ -208,7 +116,7 @@ fn message_has_its(t: Steps, m: Message, k: Kind, x: Holding) -> bool
         Message::Reference { weight, .. } => both(live, 1 <= weight),
         Message::Release { weight, .. } => both(live, 1 <= weight),
         Message::Read { owner, entry, .. } => {
-            let met = reached(t, parts::named_by(k), owner, entry);
+            let met = chains::reached(t, parts::named_by(k), owner, entry);
             both(both(parts::is_reading(k), live), met)
         }
         Message::Answer { .. } => parts::is_reading(k),
@@ -226,7 +134,7 @@ fn message_has_its(t: Steps, m: Message, k: Kind, x: Holding) -> bool
 fn messages_have_theirs(s: State) -> bool
     ensures { λ r. ⌜ r ≡ eachMessage eight (tables s) (messageHasIts eight (tables s)) ⌝ }
 {
-    let t = steps_of(s);
+    let t = chains::steps_of(s);
     let mut good = true;
     for i in 0..ALL_SLOTS {
         let x = s.slots[i];

@@ -26,7 +26,7 @@ use Rattle.rules.specs.Chains.{through, follow}
 use Rattle.rules.specs.Sound.{reached}
 use Rattle.loops.specs.Walking.{walk-cong}
 use Rattle.places.specs.Places.{placeIndex}
-use Rattle.waits.specs.declared.Step.{Step}
+use Rattle.chains.specs.declared.Step.{Step}
 
 abbrev pub nextAt : List Step → ℕ → Place
 nextAt l i = getD l i (record { next = Nowhere }) .next

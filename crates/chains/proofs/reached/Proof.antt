@@ -1,13 +1,13 @@
--- `waits::reached` meets its contract: a walk by the table of steps. Assumes nothing.
+-- `chains::reached` meets its contract: a walk by the table of steps. Assumes nothing.
 use Prim.Native.Nat.{_-_}
 use borrow.Author.Needs.{needs}
 use Rattle.numbers.specs.Below.{walkMeets}
 use Rattle.tables.specs.Machine.{eight}
 use Rattle.tables.specs.Parts.{isAt}
 use Rattle.loops.specs.Walking.{Walking, walk-start, walk-met, walk-on, walk-end}
-use Rattle.waits.specs.Steps.{stepBy}
-use Rattle.waits.proofs.reached.Statement.{statement}
-use Rattle.waits.proofs.reached.Tie as tie
+use Rattle.chains.specs.Steps.{stepBy}
+use Rattle.chains.proofs.reached.Statement.{statement}
+use Rattle.chains.proofs.reached.Tie as tie
 
 abbrev Inv-loop : tie.InvT-loop
 Inv-loop o e t at₀ i₀ at i = Walking (isAt o e) (stepBy eight (t .steps)) 128 i at (walkMeets (isAt o e) (stepBy eight (t .steps)) 128 at₀)

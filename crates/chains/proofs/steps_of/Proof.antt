@@ -1,4 +1,4 @@
--- `waits::steps_of` meets its contract: each entry passed has its step. Assumes nothing.
+-- `chains::steps_of` meets its contract: each entry passed has its step. Assumes nothing.
 use Prim.Native.Nat.{_+_, _*_, _-_, _/_, _%_, _≤_}
 use native.Mathlib.Omega.{arith}
 use mathlib.Core.Path.{_≡_, refl, ap}
@@ -6,9 +6,9 @@ use borrow.Author.Needs.{needs}
 use Rattle.tables.specs.Machine.{eight, tables}
 use Rattle.tables.specs.Look.{holdingAt}
 use Rattle.places.specs.Places.{cell-read}
-use Rattle.waits.specs.Steps.{Followed, followed-none, followed-more, no-step, step-read}
-use Rattle.waits.proofs.steps_of.Statement.{statement}
-use Rattle.waits.proofs.steps_of.Tie as tie
+use Rattle.chains.specs.Steps.{Followed, followed-none, followed-more, no-step, step-read}
+use Rattle.chains.proofs.steps_of.Statement.{statement}
+use Rattle.chains.proofs.steps_of.Tie as tie
 
 abbrev Inv-loop : tie.InvT-loop
 Inv-loop s t₀ i₀ t i = Followed eight (tables s) (t .steps) i × (i ≤ 128)

@@ -1,8 +1,8 @@
--- `waits::next_seen` meets its contract: by cases. Assumes nothing.
+-- `chains::next_seen` meets its contract: by cases. Assumes nothing.
 use borrow.Author.Needs.{needs}
-use Rattle.waits.specs.Steps.{nextSeen}
-use Rattle.waits.proofs.next_seen.Statement.{statement}
-use Rattle.waits.proofs.next_seen.Tie as tie
+use Rattle.chains.specs.Steps.{nextSeen}
+use Rattle.chains.proofs.next_seen.Statement.{statement}
+use Rattle.chains.proofs.next_seen.Tie as tie
 
 pub next-seen-spec : {M : Type 1} → statement M
 unfolding nextSeen

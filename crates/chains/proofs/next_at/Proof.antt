@@ -1,8 +1,8 @@
--- `waits::next_at` meets its contract: the two guards. Assumes nothing.
+-- `chains::next_at` meets its contract: the two guards. Assumes nothing.
 use borrow.Author.Tests.{lt-ltb, le-ltb}
-use Rattle.waits.specs.Steps.{nextSeen}
-use Rattle.waits.proofs.next_at.Statement.{statement}
-use Rattle.waits.proofs.next_at.Tie as tie
+use Rattle.chains.specs.Steps.{nextSeen}
+use Rattle.chains.proofs.next_at.Statement.{statement}
+use Rattle.chains.proofs.next_at.Tie as tie
 
 pub next-at-spec : {M : Type 1} → statement M
 unfolding nextSeen

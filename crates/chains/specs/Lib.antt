@@ -1,0 +1,2 @@
+-- The table of steps along ends and references.
+pub mod Steps
