@@ -2,9 +2,11 @@
 // there changes nothing. A look-up takes the one table that it reads, since a state is copied wherever it is passed, and says what it
 // finds of any tables t that have this one.
 ghost use mathlib.Core.Path.{_≡_};
+ghost use mathlib.Core.Bool.{_||_};
 ghost use Rattle.numbers.specs.Below.{lowest};
 ghost use Rattle.tables.specs.Machine.{Tables, eight, tables, state};
-ghost use Rattle.tables.specs.Look.{cell, entry, message, putCell, putEntry, putMessage, safe, entryOf, exported, referred, busy};
+ghost use Rattle.tables.specs.Parts.{isReading, isAsking};
+ghost use Rattle.tables.specs.Look.{cell, entry, message, putCell, putEntry, putMessage, safe, entryOf, exported, referred};
 ghost use Rattle.tables.specs.Look.{lowestFreeCell, lowestFreeEntry, lowestEmptySlot, exNaming, freeCells, booked, liveEntries, room};
 ghost use Rattle.lookups.specs.Sought.{isSought, isSoughtEntry, seen};
 use numbers::bit_of;
@@ -300,7 +302,7 @@ pub fn is_exported(entries: EntryTable, w: u8, c: u8) -> bool
 
 // A live entry or a REF names the cell c of worker w, which holds k, or k is an EX that is reading or asking.
 pub fn is_busy(cells: CellTable, entries: EntryTable, w: u8, c: u8, k: Kind) -> bool
-    ensures { λ r. ⌜ ((t : Tables) → t .cells ≡ cells → t .entries ≡ entries → k ≡ cell eight t w c → r ≡ busy eight t w c) ⌝ }
+    ensures { λ r. ⌜ ((t : Tables) → t .cells ≡ cells → t .entries ≡ entries → r ≡ (exported eight t w c || referred eight t w c || isReading k || isAsking k)) ⌝ }
 {
     let named = either(is_exported(entries, w, c), is_referred(cells, w, c));
     either(either(named, parts::is_reading(k)), parts::is_asking(k))

@@ -1,13 +1,14 @@
 -- `drop` meets its contract: its refusals in order, and what it does. Assumes nothing.
 use mathlib.Core.Path.{refl}
 use Rattle.tables.specs.Machine.{eight, tables}
+use Rattle.tables.specs.Look.{busy}
 use Rattle.rules.specs.Calls.{drop}
 use Rattle.calls.specs.Verdicts.{along, decides}
 use Rattle.calls.proofs.drop.Statement.{statement}
 use Rattle.calls.proofs.drop.Tie as tie
 
 pub drop-spec : {M : Type 1} → statement M
-unfolding along drop
+unfolding along drop busy
 drop-spec =
     tie.close
     (tie.spec
@@ -31,5 +32,5 @@ drop-spec =
     let slot = e .lowest-empty-slot .ensures t refl in
     rw (c .replied .ensures, c .before .answer .ensures)
     (decides eight t _ _ _ _
-    (rw (c .before .before .before .slot-refusal .ensures, d .refuse-if .ensures, d .before .cell-refusals .ensures, d .before .before .is-sound .ensures, d .before .before .before .is-ex .ensures, slot, e .before .is-busy .ensures t refl refl k, k))
+    (rw (c .before .before .before .slot-refusal .ensures, d .refuse-if .ensures, d .before .cell-refusals .ensures, d .before .before .is-sound .ensures, d .before .before .before .is-ex .ensures, slot, e .before .is-busy .ensures t refl refl, k))
     (λ h. rw (c .before .before .dropped .ensures, slot, k)))))

@@ -1,13 +1,14 @@
 -- `transfer` meets its contract: its refusals in order, and what it does. Assumes nothing.
 use mathlib.Core.Path.{refl}
 use Rattle.tables.specs.Machine.{eight, tables}
+use Rattle.tables.specs.Look.{busy}
 use Rattle.rules.specs.Calls.{transfer}
 use Rattle.calls.specs.Verdicts.{along, decides}
 use Rattle.calls.proofs.transfer.Statement.{statement}
 use Rattle.calls.proofs.transfer.Tie as tie
 
 pub transfer-spec : {M : Type 1} → statement M
-unfolding along transfer
+unfolding along transfer busy
 transfer-spec =
     tie.close
     (tie.spec
@@ -32,5 +33,5 @@ transfer-spec =
     let room = e .before .room-at .ensures t refl refl in
     rw (c .replied .ensures, c .before .answer .ensures)
     (decides eight t _ _ _ _
-    (rw (c .before .before .before .room-refusals .ensures, d .refuse-if2 .ensures, d .before .refuse-if .ensures, d .before .before .is-ex .ensures, d .before .before .before .send-refusals .ensures, e .is-sound .ensures, room, e .before .before .is-busy .ensures t refl refl k, k))
+    (rw (c .before .before .before .room-refusals .ensures, d .refuse-if2 .ensures, d .before .refuse-if .ensures, d .before .before .is-ex .ensures, d .before .before .before .send-refusals .ensures, e .is-sound .ensures, room, e .before .before .is-busy .ensures t refl refl, k))
     (λ h. rw (c .before .before .transferred .ensures, room, k)))))

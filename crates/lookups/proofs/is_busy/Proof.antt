@@ -1,10 +1,8 @@
 -- `lookups::is_busy` meets its contract: four tests. Assumes nothing.
-use Rattle.tables.specs.Look.{busy}
 use Rattle.lookups.proofs.is_busy.Statement.{statement}
 use Rattle.lookups.proofs.is_busy.Tie as tie
 
 pub is-busy-spec : {M : Type 1} → statement M
-unfolding busy
 is-busy-spec =
     tie.close
     (tie.spec
@@ -15,6 +13,6 @@ is-busy-spec =
     (λ c κs. tt)
     (λ c κs. tt)
     (λ c κs. tt)
-    (λ c t e f g.
+    (λ c t e f.
     let d = c .before .before .before in
-    rw (c .either3 .ensures, c .before .is-asking .ensures, c .before .before .either2 .ensures, d .is-reading .ensures, d .before .either .ensures, d .before .before .is-referred .ensures t e, d .before .before .before .is-exported .ensures t f, g)))
+    rw (c .either3 .ensures, c .before .is-asking .ensures, c .before .before .either2 .ensures, d .is-reading .ensures, d .before .either .ensures, d .before .before .is-referred .ensures t e, d .before .before .before .is-exported .ensures t f)))

@@ -45,7 +45,7 @@ point-2-spec =
     (λ c.
     let d = c .before in
     let loop = d .before .before .before in
-    pass-over (loop .loop .inv) (d .before .before .loop-test .taken) (nothing-named eight _ _ _ (kindAt (loop .before .args .t1 .cells) (loop .loop .i)) (d .names-nothing .ensures) (c .if1 .taken)))
+    pass-over (loop .loop .inv) (d .before .before .loop-test .taken) (nothing-named eight _ _ 0 (kindAt (loop .before .args .t1 .cells) (loop .loop .i)) (d .names-nothing .ensures) (c .if1 .taken)))
     (λ c. search needs)
     (λ c κs. tt)
     (λ c κs. tt)
