@@ -41,8 +41,8 @@ use Rattle.rules.proofs.Walks.{follow-live, ahead-add, ends-before}
 use Rattle.rules.proofs.Onward.{ahead-kept, ends-kept}
 use Rattle.rules.proofs.Count.{standing-some, standing-falls}
 use Rattle.rules.proofs.Ends.{EndIs, plain, leads, end-is}
-use Rattle.rules.proofs.Measure.{spends, status-same, Delivers, delivers-makes, delivers-cell, delivers-ex, delivers-entry, delivers-slot}
-use Rattle.rules.proofs.Moves.{cellMove, entryMove, slotMove, ExMoves, ex-keeps, entry-keeps}
+use Rattle.rules.proofs.Measure.{spends, status-same, kind-same, ex-on, Delivers, delivers-makes, delivers-by}
+use Rattle.rules.proofs.Moves.{cellMove, entryMove, slotMove, ExMoves, ex-keeps, entry-keeps, stores-cell-message, stores-ex, stores-entry, stores-slot}
 use Rattle.rules.proofs.Steps.{makes-checked, not-false, cond-add, free-cell, free-not-busy}
 use Rattle.rules.proofs.Local.{weight-some}
 use Rattle.rules.proofs.Entries.{cells-same, entries-same, entry-next}
@@ -97,7 +97,7 @@ module _ (𝓜 : Machine) (L : Laws 𝓜) (s : Tables) (F : Facts 𝓜 s) (reads
           → ((f d : ℕ) → entryNames d x ≡ true → entryNames d (entry 𝓜 s o f) ≡ true → f ≡ e) → (isLive x ≡ true → isLive x₀ ≡ true)
           → entryWeight x + w ≡ entryWeight x₀ → Delivers 𝓜 s (putMessage (putEntry 𝓜 s o e x) k Empty)
       taken x₀ x q oi ei ki fact kept new live less =
-          delivers-entry 𝓜 L s F o e x₀ x k m₀ Empty
+          delivers-by 𝓜 s (stores-entry 𝓜 L s F o e x₀ x k m₀ Empty
           (record {
             o-in = oi;
             e-in = ei;
@@ -113,9 +113,9 @@ module _ (𝓜 : Machine) (L : Laws 𝓜) (s : Tables) (F : Facts 𝓜 s) (reads
             weights = λ a b. omega (arith, B .holds a b, cond-add (eqb o a && eqb e b) (entryWeight x) w (entryWeight x₀) less);
             holds-ok = λ a b. refl;
             room = λ v. omega (arith, F .room v);
-          })
+          }))
           (inr (0, tt)) (λ t. record { answer-ok = inr tt; known-ok = inl (λ y. y) })
-          live
+          live (kind-same (cell 𝓜 s 0 0))
           (λ ρ R. B .cost (next 𝓜 s (entryMove 𝓜 s o e x₀ x k m₀ Empty)) ρ)
 
       go : (c n : ℕ) (t : Bool) → entry 𝓜 s o e ≡ Live c n t → EntryFact 𝓜 s o (Live c n t) → o < 𝓜 .workers → e < 𝓜 .entries → k < 𝓜 .slots → w ≤ n
@@ -155,7 +155,7 @@ module _ (𝓜 : Machine) (L : Laws 𝓜) (s : Tables) (F : Facts 𝓜 s) (reads
           let x = the-ex-of o e (cell 𝓜 s to c) (lowest-at (𝓜 .cells) (λ d. exNames o e (cell 𝓜 s to d)) (ltb-true c (𝓜 .cells) found)) in
           let n = x .weight in
           subst (λ (y : Kind). Delivers 𝓜 s (putMessage (putCell 𝓜 s to c (joined o e w y)) k Empty)) (sym (x .is))
-          (delivers-ex 𝓜 L s F to c o e n (n + w) (x .status) (x .status) (x .asking) (x .asking) k (Reference to o e w) Empty
+          (delivers-by 𝓜 s (stores-ex 𝓜 L s F to c o e n (n + w) (x .status) (x .status) (x .asking) (x .asking) k (Reference to o e w) Empty
           (record {
             i-in = within;
             old-cell = x .is;
@@ -167,16 +167,15 @@ module _ (𝓜 : Machine) (L : Laws 𝓜) (s : Tables) (F : Facts 𝓜 s) (reads
             weights = λ a b. omega (arith, cond-add (eqb o a && eqb e b) n w (n + w) refl);
             holds-ok = λ a b. refl;
             room = λ v. omega (arith, F .room v);
-          })
+          }))
           (inr (0, tt)) (λ t. record { answer-ok = inr tt; known-ok = inl (λ y. y) })
-          (λ ρ R. omega arith)
-          (status-same (x .status)))
+          (λ y. y) (ex-on o e (n + w) (x .status) (x .status) (x .asking) (status-same (x .status))) (λ ρ R. omega arith))
       go false none =
           let c = lowestFreeCell 𝓜 s to in
           let one = arrives-booked k to o e w q in
           let free = free-cell 𝓜 L s F to (omega (arith, F .room to)) in
           subst (λ (y : Kind). Delivers 𝓜 s (putMessage (putCell 𝓜 s to c (joined o e w y)) k Empty)) (sym (free .1))
-          (delivers-cell 𝓜 L s F to c Free (Ex o e w Idle false) k (Reference to o e w) Empty
+          (delivers-by 𝓜 s (stores-cell-message 𝓜 L s F to c Free (Ex o e w Idle false) k (Reference to o e w) Empty
           (record {
             w-in = omega (arith, f .0, F .p-le);
             c-in = free .0;
@@ -193,10 +192,9 @@ module _ (𝓜 : Machine) (L : Laws 𝓜) (s : Tables) (F : Facts 𝓜 s) (reads
             weights = λ a b. omega arith;
             holds-ok = inr (λ a b. refl);
             room = λ v. fits v (eqb to v) (F .room v);
-          })
+          }))
           (inr (0, tt)) (λ t. record { answer-ok = inr tt; known-ok = inr tt })
-          (λ ρ R. omega arith)
-          tt)
+          (λ y. y) tt (λ ρ R. omega arith))
         where
           -- no EX of the worker names the entry
           unnamed-entry : (d : ℕ) → d < 𝓜 .cells → exNames o e (cell 𝓜 s to d) ≡ false
@@ -273,8 +271,9 @@ module _ (𝓜 : Machine) (L : Laws 𝓜) (s : Tables) (F : Facts 𝓜 s) (reads
       let further : ahead 𝓜 s (at .0 + 1) (namedBy (cell 𝓜 s r c)) ≡ At o′ e′ = ahead-add 𝓜 s (at .0) 1 (namedBy (cell 𝓜 s r c)) ∙ ap (follow 𝓜 s) (at .1) ∙ step in
       let live = live-read k r c o e m K q in
       let now = ap (ahead 𝓜 (next 𝓜 s h) (at .0 + 1)) (place .0) ∙ ahead-kept 𝓜 s h F K (at .0 + 1) (namedBy (cell 𝓜 s r c)) o′ e′ (place .1) further in
-      delivers-slot 𝓜 L s F k (Read r c o e) m K
+      delivers-by 𝓜 s (stores-slot 𝓜 L s k (Read r c o e) m K)
       (inr (at .0 + 1, now)) (λ t. record { answer-ok = inr tt; known-ok = inl (λ y. y) })
+      (λ y. y) (kind-same (cell 𝓜 s 0 0))
       (λ ρ R. omega (arith, standing-falls 𝓜 L (next 𝓜 s h) (facts-kept 𝓜 s h F K .sized) ρ o e (ρ o′ e′) live (R .falls o e o′ e′ step)))
 
   is-answered : (k r c o e v : ℕ) → message s k ≡ Read r c o e → (TrueValues 𝓜 s → EndsIn 𝓜 s (At o e) v) → Delivers 𝓜 s (putMessage s k (Answer r c v))
@@ -287,8 +286,9 @@ module _ (𝓜 : Machine) (L : Laws 𝓜) (s : Tables) (F : Facts 𝓜 s) (reads
       let from-reader : TrueValues 𝓜 s → EndsIn 𝓜 s (namedBy (cell 𝓜 s r c)) v = λ t. ends-before 𝓜 s (at .0) (namedBy (cell 𝓜 s r c)) (At o e) v (at .1) (ends t) in
       let now : TrueValues 𝓜 s → EndsIn 𝓜 (next 𝓜 s h) (namedBy (cell 𝓜 s r c)) v = λ t. ends-kept 𝓜 s h F K (namedBy (cell 𝓜 s r c)) v (place .1) (from-reader t) in
       let live = live-read k r c o e m K q in
-      delivers-slot 𝓜 L s F k (Read r c o e) m K
+      delivers-by 𝓜 s (stores-slot 𝓜 L s k (Read r c o e) m K)
       (inr (0, tt)) (λ t. record { answer-ok = inr (subst (λ (p : Place). EndsIn 𝓜 (next 𝓜 s h) p v) (sym (place .0)) (now t)); known-ok = inl (λ y. y) })
+      (λ y. y) (kind-same (cell 𝓜 s 0 0))
       (λ ρ R. omega (arith, standing-some 𝓜 L (next 𝓜 s h) (facts-kept 𝓜 s h F K .sized) ρ o e live))
 
   -- "Read"
@@ -344,10 +344,9 @@ module _ (𝓜 : Machine) (L : Laws 𝓜) (s : Tables) (F : Facts 𝓜 s) (reads
           let here = cell-stored 𝓜 s h (F .sized) (K .placed) .here in
           let live = subst (LivePlace 𝓜 (next 𝓜 s h)) (ap namedBy here) (named-place 𝓜 (next 𝓜 s h) (facts-kept 𝓜 s h F K) r c) in
           let now : TrueValues 𝓜 s → EndsIn 𝓜 (next 𝓜 s h) (At o e) v = λ t. ends-kept 𝓜 s h F K (At o e) v live (subst (λ (p : Place). EndsIn 𝓜 s p v) (ap namedBy i) (ends t)) in
-          delivers-ex 𝓜 L s F r c o e n n Reading (Known v) a a k (Answer r c v) Empty M
+          delivers-by 𝓜 s (stores-ex 𝓜 L s F r c o e n n Reading (Known v) a a k (Answer r c v) Empty M)
           (inr (0, tt)) (λ t. record { answer-ok = inr tt; known-ok = inr (now t) })
-          (λ ρ R. omega arith)
-          tt
+          (λ y. y) (ex-on o e n Reading (Known v) a tt) (λ ρ R. omega arith)
 
   -- "Supply"
   supply-arrives : (k a c w : ℕ) → message s k ≡ Supply a c w → Delivers 𝓜 s (made 𝓜 s (deliverSupply 𝓜 s k a c w) .after)
@@ -362,7 +361,7 @@ module _ (𝓜 : Machine) (L : Laws 𝓜) (s : Tables) (F : Facts 𝓜 s) (reads
       go (Ref d) i t = absurd-bool t refl
       go (Ex o e n st false) i t = absurd-bool t refl
       go (Ex o e n st true) i t =
-          delivers-ex 𝓜 L s F a c o e n (n + w) st st true false k (Supply a c w) Empty
+          delivers-by 𝓜 s (stores-ex 𝓜 L s F a c o e n (n + w) st st true false k (Supply a c w) Empty
           (record {
             i-in = message-inside k (ap isEmpty q);
             old-cell = i;
@@ -374,10 +373,9 @@ module _ (𝓜 : Machine) (L : Laws 𝓜) (s : Tables) (F : Facts 𝓜 s) (reads
             weights = λ x y. omega (arith, cond-add (eqb o x && eqb e y) n w (n + w) refl, ap (λ (j : Kind). cond (exNames x y j) w 0) i);
             holds-ok = λ x y. refl;
             room = λ v. omega (arith, F .room v);
-          })
+          }))
           (inr (0, tt)) (λ t. record { answer-ok = inr tt; known-ok = inl (λ y. y) })
-          (λ ρ R. omega arith)
-          (status-same st)
+          (λ y. y) (ex-on o e (n + w) st st false (status-same st)) (λ ρ R. omega arith)
 
   -- "Ask"
   ask-arrives : (k a c o e : ℕ) → message s k ≡ Ask a c o e → Delivers 𝓜 s (made 𝓜 s (deliverAsk 𝓜 s k a c o e) .after)
@@ -395,7 +393,7 @@ module _ (𝓜 : Machine) (L : Laws 𝓜) (s : Tables) (F : Facts 𝓜 s) (reads
       go d n t w i f oi ei small x =
           let within = message-inside k (ap isEmpty q) in
           let at-place : (y z : ℕ) → exNames y z (cell 𝓜 s a c) ≡ (eqb o y && eqb e z) = λ y z. ap (exNames y z) (x .is) in
-          delivers-entry 𝓜 L s F o e (Live d n t) (Live d (n + w) t) k (Ask a c o e) (Supply a c w)
+          delivers-by 𝓜 s (stores-entry 𝓜 L s F o e (Live d n t) (Live d (n + w) t) k (Ask a c o e) (Supply a c w)
           (record {
             o-in = oi;
             e-in = ei;
@@ -411,10 +409,9 @@ module _ (𝓜 : Machine) (L : Laws 𝓜) (s : Tables) (F : Facts 𝓜 s) (reads
             weights = λ y z. omega (arith, cond-add (eqb o y && eqb e z) n w (n + w) refl, ap (λ (b : Bool). cond b w 0) (at-place y z));
             holds-ok = λ y z. ap (λ (j : Kind). cond (exNames y z j) w 0) (cells-same 𝓜 L s F o e (Live d n t) (Live d (n + w) t) k (Ask a c o e) (Supply a c w) oi ei within i q a c);
             room = λ v. omega (arith, F .room v);
-          })
+          }))
           (inr (0, tt)) (λ t. record { answer-ok = inr tt; known-ok = inl (λ y. y) })
-          (λ y. refl)
-          (λ ρ R. omega arith)
+          (λ y. refl) (kind-same (cell 𝓜 s 0 0)) (λ ρ R. omega arith)
 
   -- ---- every message
   reference-brings : (k to o e w : ℕ) → message s k ≡ Reference to o e w → Brings k o e w (Reference to o e w)

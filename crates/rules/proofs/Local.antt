@@ -29,7 +29,8 @@ use Rattle.rules.proofs.Busy.{idle-parts}
 use Rattle.rules.specs.Move.{next, Placed, VarBecomes, stays, bound, Makes}
 use Rattle.rules.proofs.Next.{cell-stored}
 use Rattle.rules.proofs.Moves.{cellMove, CellMoves}
-use Rattle.rules.proofs.Steps.{makes-checked, not-false, var-is, zero-cond, free-cell, empty-slot, has-room, room-sent, room-same, free-not-busy, makes-cell, makes-cell-message}
+use Rattle.rules.proofs.Steps.{makes-checked, not-false, var-is, zero-cond, free-cell, empty-slot, has-room, room-sent, room-same, free-not-busy, makes-by}
+use Rattle.rules.proofs.Moves.{stores-cell, stores-cell-message}
 
 -- a message that carries the weight n of the entry e of worker o, and is no Read, Answer, Ask or Supply
 pub record Sends (𝓜 : Machine) (s : Tables) (o e n : ℕ) (m : Message) : Type 0 where
@@ -96,7 +97,7 @@ module _ (𝓜 : Machine) (L : Laws 𝓜) (s : Tables) (F : Facts 𝓜 s) where
       let u = worker-used w (search) in
       let r = has-room 𝓜 L s F w (search) in
       let f = free-cell 𝓜 L s F w (omega arith) in
-      makes-cell 𝓜 L s F w c Free Var (new-moves w c (u .0) r (f .0) (f .1)) (inl refl) (λ t. record { answer-ok = inl refl; known-ok = inr tt }))
+      makes-by 𝓜 s (stores-cell 𝓜 L s F w c Free Var (new-moves w c (u .0) r (f .0) (f .1))) (inl refl) (λ t. record { answer-ok = inl refl; known-ok = inr tt }))
 
   -- ---- set and bind: a VAR gets its value, or becomes a REF
   var-moves : (w c : ℕ) (k : Kind) → cell 𝓜 s w c ≡ Var → CellFact 𝓜 (next 𝓜 s (cellMove 𝓜 s w c Var k 0 (message s 0) (message s 0))) w k
@@ -133,7 +134,7 @@ module _ (𝓜 : Machine) (L : Laws 𝓜) (s : Tables) (F : Facts 𝓜 s) where
       (λ p.
       let u = worker-used w (search) in
       let q = var-is (cell 𝓜 s w c) (not-false (search)) in
-      makes-cell 𝓜 L s F w c Var (Val n) (var-moves w c (Val n) q (u .0) (λ x. stays refl) refl refl) (inl refl) (λ t. record { answer-ok = inl refl; known-ok = inr tt }))
+      makes-by 𝓜 s (stores-cell 𝓜 L s F w c Var (Val n) (var-moves w c (Val n) q (u .0) (λ x. stays refl) refl refl)) (inl refl) (λ t. record { answer-ok = inl refl; known-ok = inr tt }))
 
   pub bind-makes : (w c x : ℕ) → Makes 𝓜 s (made 𝓜 s (bind 𝓜 s w c x) .after)
   unfolding bind endKind
@@ -145,7 +146,7 @@ module _ (𝓜 : Machine) (L : Laws 𝓜) (s : Tables) (F : Facts 𝓜 s) where
       let q = var-is (cell 𝓜 s w c) (not-false (search)) in
       let ex : isEx (cell 𝓜 s w y) ≡ true = not-false (search) in
       let guarded : (exported 𝓜 s w c && not (safe 𝓜 s w (cell 𝓜 s w y))) ≡ false = search in
-      makes-cell 𝓜 L s F w c Var (Ref y) (var-moves w c (Ref y) q (u .0, ref-ex q ex) (λ e. bound y refl (safe-of (exported 𝓜 s w c) (safe 𝓜 s w (cell 𝓜 s w y)) e guarded)) refl refl) (inl refl) (λ t. record { answer-ok = inl refl; known-ok = inr tt }))
+      makes-by 𝓜 s (stores-cell 𝓜 L s F w c Var (Ref y) (var-moves w c (Ref y) q (u .0, ref-ex q ex) (λ e. bound y refl (safe-of (exported 𝓜 s w c) (safe 𝓜 s w (cell 𝓜 s w y)) e guarded)) refl refl)) (inl refl) (λ t. record { answer-ok = inl refl; known-ok = inr tt }))
     where
       safe-of : (a b : Bool) → a ≡ true → (a && not b) ≡ false → b ≡ true
       safe-of true true e g = refl
@@ -202,7 +203,7 @@ module _ (𝓜 : Machine) (L : Laws 𝓜) (s : Tables) (F : Facts 𝓜 s) where
   frees-only : (w c : ℕ) (k₀ : Kind) → cell 𝓜 s w c ≡ k₀ → isFree k₀ ≡ false → busy 𝓜 s w c ≡ false → ((a b : ℕ) → cellHolds 𝓜 s a b k₀ ≡ 0)
       → Makes 𝓜 s (putCell 𝓜 s w c Free)
   frees-only w c k₀ q nf idle light =
-      makes-cell 𝓜 L s F w c k₀ Free
+      makes-by 𝓜 s (stores-cell 𝓜 L s F w c k₀ Free
       (frees w c k₀ 0 (message s 0) (message s 0)
       (record {
         i-in = L .slots-some;
@@ -216,7 +217,7 @@ module _ (𝓜 : Machine) (L : Laws 𝓜) (s : Tables) (F : Facts 𝓜 s) where
         weights = λ a b. omega (arith, light a b);
         holds-ok = inl refl;
         room = λ v. omega (arith, F .room v);
-      }))
+      })))
       (inl refl) (λ t. record { answer-ok = inl refl; known-ok = inr tt })
 
   -- an EX's whole weight goes into an empty slot, as a Reference or as a Release
@@ -225,7 +226,7 @@ module _ (𝓜 : Machine) (L : Laws 𝓜) (s : Tables) (F : Facts 𝓜 s) where
       → Makes 𝓜 s (putMessage (putCell 𝓜 s w c Free) (lowestEmptySlot 𝓜 s) m)
   frees-sent w c o e n st a m q idle full z room =
       let slot = empty-slot 𝓜 L s F full in
-      makes-cell-message 𝓜 L s F w c (Ex o e n st a) Free (lowestEmptySlot 𝓜 s) Empty m
+      makes-by 𝓜 s (stores-cell-message 𝓜 L s F w c (Ex o e n st a) Free (lowestEmptySlot 𝓜 s) Empty m
       (frees w c (Ex o e n st a) (lowestEmptySlot 𝓜 s) Empty m
       (record {
         i-in = slot .0;
@@ -239,7 +240,7 @@ module _ (𝓜 : Machine) (L : Laws 𝓜) (s : Tables) (F : Facts 𝓜 s) where
         weights = λ x y. omega (arith, z .holds s x y);
         holds-ok = inr (λ x y. z .holds (next 𝓜 s (cellMove 𝓜 s w c (Ex o e n st a) Free (lowestEmptySlot 𝓜 s) Empty m)) x y ∙ sym (z .holds s x y));
         room = room;
-      }))
+      })))
       (inr (0, z .no-ahead (next 𝓜 s (cellMove 𝓜 s w c (Ex o e n st a) Free (lowestEmptySlot 𝓜 s) Empty m)))) (λ t. record { answer-ok = inr (z .no-answer (next 𝓜 s (cellMove 𝓜 s w c (Ex o e n st a) Free (lowestEmptySlot 𝓜 s) Empty m))); known-ok = inr tt })
 
   -- "transfer"

@@ -15,18 +15,16 @@ use Rattle.tables.specs.declared.Status.{Status}
 use Rattle.tables.specs.declared.Status.the-variants.{Idle, Reading, Known}
 use Rattle.tables.specs.declared.Kind.{Kind}
 use Rattle.tables.specs.declared.Kind.the-variants.{Free, Var, Val, Ref, Ex}
-use Rattle.tables.specs.declared.Holding.{Holding}
 use Rattle.tables.specs.declared.Place.{Place}
 use Rattle.tables.specs.declared.Message.{Message}
 use Rattle.tables.specs.declared.Message.the-variants.{Empty, Reference, Release, Read, Answer, Ask, Supply}
 use Rattle.tables.specs.Machine.{Machine, Tables}
-use Rattle.tables.specs.Parts.{isFree, isLive}
-use Rattle.tables.specs.Look.{cell, entry, liveEntries, message, putCell, putEntry, putMessage}
+use Rattle.tables.specs.Parts.{isLive}
+use Rattle.tables.specs.Look.{cell, entry, liveEntries, message}
 use Rattle.rules.specs.Calls.{costs, B}
 use Rattle.rules.specs.Machines.{Laws}
 use Rattle.rules.specs.Chains.{EndsIn}
 use Rattle.rules.specs.Facts.{Facts}
-use Rattle.rules.proofs.Inside.{cell-inside}
 use Rattle.rules.proofs.Derived.{LivePlace}
 use Rattle.rules.specs.Move.{Move, next, Keeps, ReadsOn, TrueValues, Carries, Makes, moved, Ranked, Invariant}
 use Rattle.rules.proofs.Stored.{stored-each}
@@ -35,7 +33,7 @@ use Rattle.rules.proofs.Onward.{ends-kept}
 use Rattle.rules.proofs.Rank.{was-or-new}
 use Rattle.rules.proofs.Stays.{invariant-kept, rank-kept}
 use Rattle.rules.proofs.Count.{standsAt, standing, standing-live}
-use Rattle.rules.proofs.Moves.{cellMove, entryMove, slotMove, put-cell-message, put-entry-message, put-message, CellMoves, cell-keeps, ExMoves, ex-keeps, EntryMoves, entry-keeps}
+use Rattle.rules.proofs.Moves.{Stores}
 
 -- what a message may still take: a Read one for itself, and one for each live entry that stands at most as high as its own
 abbrev pub spends : Machine → Tables → (ℕ → ℕ → ℕ) → Message → ℕ
@@ -103,6 +101,10 @@ kind-same (Val n) = tt
 kind-same (Ref d) = tt
 kind-same (Ex o e n st a) = record { weight = n; status = st; asking = a; is = refl; on = status-same st }
 
+-- an EX that stays one, with this status
+pub ex-on : (o e n : ℕ) (st₀ st : Status) (a : Bool) → StatusOn st₀ st → ExOn o e st₀ (Ex o e n st a)
+ex-on o e n st₀ st a on = record { weight = n; status = st; asking = a; is = refl; on = on }
+
 -- a delivery is a move that makes no entry; in a reached state it keeps what is true of those, and less is left to be delivered
 pub record Delivers (𝓜 : Machine) (s s′ : Tables) : Type 0 where
   pub move : Move
@@ -117,73 +119,11 @@ pub record Delivers (𝓜 : Machine) (s s′ : Tables) : Type 0 where
 pub delivers-makes : (𝓜 : Machine) (s s′ : Tables) → Delivers 𝓜 s s′ → Makes 𝓜 s s′
 delivers-makes 𝓜 s s′ D = subst (Makes 𝓜 s) (D .is) (moved (D .move) (D .keeps) (D .reads-on) (D .carries))
 
--- ---- over the rules' stores
-module _ (𝓜 : Machine) (L : Laws 𝓜) (s : Tables) (F : Facts 𝓜 s) where
-  pub delivers-cell : (w c : ℕ) (k₀ k : Kind) (i : ℕ) (m₀ m : Message) → CellMoves 𝓜 L s w c k₀ k i m₀ m
-      → ReadsOn 𝓜 s (cellMove 𝓜 s w c k₀ k i m₀ m) → (TrueValues 𝓜 s → Carries 𝓜 s (cellMove 𝓜 s w c k₀ k i m₀ m))
-      → ((r : ℕ → ℕ → ℕ) → Ranked 𝓜 s r → spends 𝓜 (next 𝓜 s (cellMove 𝓜 s w c k₀ k i m₀ m)) r m < spends 𝓜 (next 𝓜 s (cellMove 𝓜 s w c k₀ k i m₀ m)) r m₀)
-      → KindOn k₀ k → Delivers 𝓜 s (putMessage (putCell 𝓜 s w c k) i m)
-  delivers-cell w c k₀ k i m₀ m M reads carries less on =
-      record {
-        move = cellMove 𝓜 s w c k₀ k i m₀ m;
-        keeps = cell-keeps 𝓜 L s F w c k₀ k i m₀ m M;
-        reads-on = reads;
-        none-new = λ t. t;
-        on = on;
-        is = put-cell-message 𝓜 L s w c k₀ k i m₀ m (M .w-in) (M .c-in);
-        carries = carries;
-        less = less;
-      }
-
-  pub delivers-ex : (w c o e n₀ n : ℕ) (st₀ st : Status) (a₀ a : Bool) (i : ℕ) (m₀ m : Message) → ExMoves 𝓜 L s F w c o e n₀ n st₀ st a₀ a i m₀ m
-      → ReadsOn 𝓜 s (cellMove 𝓜 s w c (Ex o e n₀ st₀ a₀) (Ex o e n st a) i m₀ m)
-      → (TrueValues 𝓜 s → Carries 𝓜 s (cellMove 𝓜 s w c (Ex o e n₀ st₀ a₀) (Ex o e n st a) i m₀ m))
-      → ((r : ℕ → ℕ → ℕ) → Ranked 𝓜 s r → spends 𝓜 (next 𝓜 s (cellMove 𝓜 s w c (Ex o e n₀ st₀ a₀) (Ex o e n st a) i m₀ m)) r m < spends 𝓜 (next 𝓜 s (cellMove 𝓜 s w c (Ex o e n₀ st₀ a₀) (Ex o e n st a) i m₀ m)) r m₀)
-      → StatusOn st₀ st → Delivers 𝓜 s (putMessage (putCell 𝓜 s w c (Ex o e n st a)) i m)
-  delivers-ex w c o e n₀ n st₀ st a₀ a i m₀ m M reads carries less on =
-      let inside = cell-inside 𝓜 s w c (ap isFree (M .old-cell)) in
-      record {
-        move = cellMove 𝓜 s w c (Ex o e n₀ st₀ a₀) (Ex o e n st a) i m₀ m;
-        keeps = ex-keeps 𝓜 L s F w c o e n₀ n st₀ st a₀ a i m₀ m M;
-        reads-on = reads;
-        none-new = λ t. t;
-        on = record { weight = n; status = st; asking = a; is = refl; on = on };
-        is = put-cell-message 𝓜 L s w c (Ex o e n₀ st₀ a₀) (Ex o e n st a) i m₀ m (inside .0) (inside .1);
-        carries = carries;
-        less = less;
-      }
-
-  pub delivers-entry : (o e : ℕ) (x₀ x : Holding) (i : ℕ) (m₀ m : Message) → EntryMoves 𝓜 L s F o e x₀ x i m₀ m
-      → ReadsOn 𝓜 s (entryMove 𝓜 s o e x₀ x i m₀ m) → (TrueValues 𝓜 s → Carries 𝓜 s (entryMove 𝓜 s o e x₀ x i m₀ m)) → (isLive x ≡ true → isLive x₀ ≡ true)
-      → ((r : ℕ → ℕ → ℕ) → Ranked 𝓜 s r → spends 𝓜 (next 𝓜 s (entryMove 𝓜 s o e x₀ x i m₀ m)) r m < spends 𝓜 (next 𝓜 s (entryMove 𝓜 s o e x₀ x i m₀ m)) r m₀)
-      → Delivers 𝓜 s (putMessage (putEntry 𝓜 s o e x) i m)
-  delivers-entry o e x₀ x i m₀ m M reads carries old less =
-      record {
-        move = entryMove 𝓜 s o e x₀ x i m₀ m;
-        keeps = entry-keeps 𝓜 L s F o e x₀ x i m₀ m M;
-        reads-on = reads;
-        none-new = old;
-        on = kind-same (cell 𝓜 s 0 0);
-        is = put-entry-message 𝓜 L s o e x₀ x i m₀ m (M .o-in) (M .e-in);
-        carries = carries;
-        less = less;
-      }
-
-  pub delivers-slot : (i : ℕ) (m₀ m : Message) → Keeps 𝓜 s (slotMove 𝓜 s i m₀ m) → ReadsOn 𝓜 s (slotMove 𝓜 s i m₀ m)
-      → (TrueValues 𝓜 s → Carries 𝓜 s (slotMove 𝓜 s i m₀ m))
-      → ((r : ℕ → ℕ → ℕ) → Ranked 𝓜 s r → spends 𝓜 (next 𝓜 s (slotMove 𝓜 s i m₀ m)) r m < spends 𝓜 (next 𝓜 s (slotMove 𝓜 s i m₀ m)) r m₀)
-      → Delivers 𝓜 s (putMessage s i m)
-  delivers-slot i m₀ m K reads carries less =
-      record {
-        move = slotMove 𝓜 s i m₀ m;
-        keeps = K;
-        reads-on = reads;
-        none-new = λ t. t;
-        on = kind-same (cell 𝓜 s 0 0);
-        is = put-message 𝓜 L s i m₀ m;
-        carries = carries;
-        less = less;
-      }
+pub delivers-by : (𝓜 : Machine) (s : Tables) {s′ : Tables} (S : Stores 𝓜 s s′) → ReadsOn 𝓜 s (S .move) → (TrueValues 𝓜 s → Carries 𝓜 s (S .move))
+    → (isLive (S .move .x) ≡ true → isLive (S .move .x₀) ≡ true) → KindOn (S .move .k₀) (S .move .k)
+    → ((r : ℕ → ℕ → ℕ) → Ranked 𝓜 s r → spends 𝓜 (next 𝓜 s (S .move)) r (S .move .m) < spends 𝓜 (next 𝓜 s (S .move)) r (S .move .m₀)) → Delivers 𝓜 s s′
+delivers-by 𝓜 s S reads carries none on less =
+    record { move = S .move; keeps = S .keeps; reads-on = reads; none-new = none; on = on; is = S .is; carries = carries; less = less }
 
 -- ---- a delivery in a reached state: the invariant stays, by the same rank, and less is left to be delivered
 pub record Arrived (𝓜 : Machine) (s : Tables) (r : ℕ → ℕ → ℕ) (s′ : Tables) : Type 0 where

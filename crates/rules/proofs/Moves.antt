@@ -205,3 +205,50 @@ module _ (𝓜 : Machine) (L : Laws 𝓜) (s : Tables) where
       where
         var-or : (k : Kind) → isVar k ≡ true → (isVar k || isVal k) ≡ true
         var-or k t = or-l (isVal k) t
+
+-- ---- the rules' stores are moves
+pub record Stores (𝓜 : Machine) (s s′ : Tables) : Type 0 where
+  pub move : Move
+  pub keeps : Keeps 𝓜 s move
+  pub is : next 𝓜 s move ≡ s′
+
+module _ (𝓜 : Machine) (L : Laws 𝓜) (s : Tables) where
+  abbrev pub stores-slot : (i : ℕ) (m₀ m : Message) → Keeps 𝓜 s (slotMove 𝓜 s i m₀ m) → Stores 𝓜 s (putMessage s i m)
+  stores-slot i m₀ m K = record { move = slotMove 𝓜 s i m₀ m; keeps = K; is = put-message 𝓜 L s i m₀ m }
+
+  module _ (F : Facts 𝓜 s) where
+    abbrev pub stores-cell : (w c : ℕ) (k₀ k : Kind) → CellMoves 𝓜 L s w c k₀ k 0 (message s 0) (message s 0) → Stores 𝓜 s (putCell 𝓜 s w c k)
+    stores-cell w c k₀ k M =
+        record {
+          move = cellMove 𝓜 s w c k₀ k 0 (message s 0) (message s 0);
+          keeps = cell-keeps 𝓜 L s F w c k₀ k 0 (message s 0) (message s 0) M;
+          is = put-cell 𝓜 L s w c k₀ k (M .w-in) (M .c-in);
+        }
+
+    abbrev pub stores-cell-message : (w c : ℕ) (k₀ k : Kind) (i : ℕ) (m₀ m : Message) → CellMoves 𝓜 L s w c k₀ k i m₀ m
+        → Stores 𝓜 s (putMessage (putCell 𝓜 s w c k) i m)
+    stores-cell-message w c k₀ k i m₀ m M =
+        record {
+          move = cellMove 𝓜 s w c k₀ k i m₀ m;
+          keeps = cell-keeps 𝓜 L s F w c k₀ k i m₀ m M;
+          is = put-cell-message 𝓜 L s w c k₀ k i m₀ m (M .w-in) (M .c-in);
+        }
+
+    abbrev pub stores-ex : (w c o e n₀ n : ℕ) (st₀ st : Status) (a₀ a : Bool) (i : ℕ) (m₀ m : Message)
+        → ExMoves 𝓜 L s F w c o e n₀ n st₀ st a₀ a i m₀ m → Stores 𝓜 s (putMessage (putCell 𝓜 s w c (Ex o e n st a)) i m)
+    stores-ex w c o e n₀ n st₀ st a₀ a i m₀ m M =
+        let inside = cell-inside 𝓜 s w c (ap isFree (M .old-cell)) in
+        record {
+          move = cellMove 𝓜 s w c (Ex o e n₀ st₀ a₀) (Ex o e n st a) i m₀ m;
+          keeps = ex-keeps 𝓜 L s F w c o e n₀ n st₀ st a₀ a i m₀ m M;
+          is = put-cell-message 𝓜 L s w c (Ex o e n₀ st₀ a₀) (Ex o e n st a) i m₀ m (inside .0) (inside .1);
+        }
+
+    abbrev pub stores-entry : (o e : ℕ) (x₀ x : Holding) (i : ℕ) (m₀ m : Message) → EntryMoves 𝓜 L s F o e x₀ x i m₀ m
+        → Stores 𝓜 s (putMessage (putEntry 𝓜 s o e x) i m)
+    stores-entry o e x₀ x i m₀ m M =
+        record {
+          move = entryMove 𝓜 s o e x₀ x i m₀ m;
+          keeps = entry-keeps 𝓜 L s F o e x₀ x i m₀ m M;
+          is = put-entry-message 𝓜 L s o e x₀ x i m₀ m (M .o-in) (M .e-in);
+        }

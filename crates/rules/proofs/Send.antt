@@ -35,7 +35,8 @@ use Rattle.rules.proofs.Derived.{live-fact}
 use Rattle.rules.specs.Move.{next, Makes, nothing}
 use Rattle.rules.proofs.Next.{cell-stored}
 use Rattle.rules.proofs.Moves.{cellMove, entryMove}
-use Rattle.rules.proofs.Steps.{makes-checked, not-false, cond-add, free-entry, empty-slot, has-room, room-sent, room-same, makes-ex, makes-entry}
+use Rattle.rules.proofs.Steps.{makes-checked, not-false, cond-add, free-entry, empty-slot, has-room, room-sent, room-same, makes-by}
+use Rattle.rules.proofs.Moves.{stores-ex, stores-entry}
 use Rattle.rules.proofs.Local.{worker-used, weight-some}
 use Rattle.rules.proofs.Entries.{entry-next}
 
@@ -60,7 +61,7 @@ module _ (𝓜 : Machine) (L : Laws 𝓜) (s : Tables) (F : Facts 𝓜 s) where
       → Makes 𝓜 s (putMessage (putEntry 𝓜 s w e y) (lowestEmptySlot 𝓜 s) (Reference to w e (𝓜 .firstWeight)))
   located w x to taint l e x₀ y e-in q fact kept new more =
       let free = empty-slot 𝓜 L s F (l .slot) in
-      makes-entry 𝓜 L s F w e x₀ y (lowestEmptySlot 𝓜 s) Empty (Reference to w e (𝓜 .firstWeight))
+      makes-by 𝓜 s (stores-entry 𝓜 L s F w e x₀ y (lowestEmptySlot 𝓜 s) Empty (Reference to w e (𝓜 .firstWeight))
       (record {
         o-in = l .w-in;
         e-in = e-in;
@@ -76,7 +77,7 @@ module _ (𝓜 : Machine) (L : Laws 𝓜) (s : Tables) (F : Facts 𝓜 s) where
         weights = λ a b. omega (arith, cond-add (eqb w a && eqb e b) (entryWeight x₀) (𝓜 .firstWeight) (entryWeight y) more);
         holds-ok = λ a b. refl;
         room = room-sent 𝓜 L s F to w e (𝓜 .firstWeight) (l .room);
-      })
+      }))
       (inr (0, tt)) (λ t. record { answer-ok = inr tt; known-ok = inl (λ k. k) })
 
   by-location-makes : (w x to : ℕ) (taint : Bool) → Locates w x to taint
@@ -129,7 +130,7 @@ module _ (𝓜 : Machine) (L : Laws 𝓜) (s : Tables) (F : Facts 𝓜 s) where
       let part = 𝓜 .split n in
       let less = L .split-less n more in
       subst (λ (k : Kind). Makes 𝓜 s (putMessage (putCell 𝓜 s w x (keeps 𝓜 k)) (lowestEmptySlot 𝓜 s) (sends 𝓜 to k))) (sym (y .is))
-      (makes-ex 𝓜 L s F w x o e n (n - part) (y .status) (y .status) (y .asking) (y .asking) (lowestEmptySlot 𝓜 s) Empty (Reference to o e part)
+      (makes-by 𝓜 s (stores-ex 𝓜 L s F w x o e n (n - part) (y .status) (y .status) (y .asking) (y .asking) (lowestEmptySlot 𝓜 s) Empty (Reference to o e part)
       (record {
         i-in = slot .0;
         old-cell = y .is;
@@ -141,7 +142,7 @@ module _ (𝓜 : Machine) (L : Laws 𝓜) (s : Tables) (F : Facts 𝓜 s) where
         weights = λ a b. omega (arith, cond-add (eqb o a && eqb e b) (n - part) part n (omega arith));
         holds-ok = λ a b. refl;
         room = room-sent 𝓜 L s F to o e part room;
-      })
+      }))
       (inr (0, tt)) (λ t. record { answer-ok = inr tt; known-ok = inl (λ k. k) }))
 
   -- ---- the end of a cell that is no REF's is its own
@@ -239,7 +240,7 @@ module _ (𝓜 : Machine) (L : Laws 𝓜) (s : Tables) (F : Facts 𝓜 s) where
   read-sent w x o e n a q full =
       let k = lowestEmptySlot 𝓜 s in
       let slot = empty-slot 𝓜 L s F full in
-      makes-ex 𝓜 L s F w x o e n n Idle Reading a a k Empty (Read w x o e)
+      makes-by 𝓜 s (stores-ex 𝓜 L s F w x o e n n Idle Reading a a k Empty (Read w x o e)
       (record {
         i-in = slot .0;
         old-cell = q;
@@ -251,7 +252,7 @@ module _ (𝓜 : Machine) (L : Laws 𝓜) (s : Tables) (F : Facts 𝓜 s) where
         weights = λ a b. refl;
         holds-ok = λ a b. refl;
         room = room-same 𝓜 L s F;
-      })
+      }))
       (inr (0, ap namedBy (here-named w x o e n n Idle Reading a a k (Read w x o e) (slot .0) (slot .1) q))) (λ t. record { answer-ok = inr tt; known-ok = inr tt })
 
   pub read-makes : (w c : ℕ) → Makes 𝓜 s (made 𝓜 s (read 𝓜 s w c) .after)
@@ -278,7 +279,7 @@ module _ (𝓜 : Machine) (L : Laws 𝓜) (s : Tables) (F : Facts 𝓜 s) where
   ask-sent w x o e n st q full =
       let k = lowestEmptySlot 𝓜 s in
       let slot = empty-slot 𝓜 L s F full in
-      makes-ex 𝓜 L s F w x o e n n st st false true k Empty (Ask w x o e)
+      makes-by 𝓜 s (stores-ex 𝓜 L s F w x o e n n st st false true k Empty (Ask w x o e)
       (record {
         i-in = slot .0;
         old-cell = q;
@@ -290,7 +291,7 @@ module _ (𝓜 : Machine) (L : Laws 𝓜) (s : Tables) (F : Facts 𝓜 s) where
         weights = λ a b. refl;
         holds-ok = λ a b. refl;
         room = room-same 𝓜 L s F;
-      })
+      }))
       (inr (0, tt)) (λ t. record { answer-ok = inr tt; known-ok = inl (λ k. k) })
 
   pub ask-makes : (w c : ℕ) → Makes 𝓜 s (made 𝓜 s (ask 𝓜 s w c) .after)

@@ -10,7 +10,6 @@ use borrow.Author.Tests.{ltb-true, leb-false, eqb-true}
 use Rattle.numbers.specs.Below.{bit, lowest}
 use Rattle.numbers.specs.Tests.{absurd-bool}
 use Rattle.numbers.specs.BelowLaws.{sum-some, some-of, lowest-at}
-use Rattle.tables.specs.declared.Status.{Status}
 use Rattle.tables.specs.declared.Kind.{Kind}
 use Rattle.tables.specs.declared.Kind.the-variants.{Free, Var, Val, Ref, Ex}
 use Rattle.tables.specs.declared.Holding.{Holding}
@@ -20,16 +19,15 @@ use Rattle.tables.specs.declared.Message.the-variants.{Empty, Reference, Releas
 use Rattle.tables.specs.declared.Effect.{Effect}
 use Rattle.tables.specs.Machine.{Machine, Tables}
 use Rattle.tables.specs.Parts.{isFree, isVar, isEx, isReading, isAsking, isUnused, isEmpty, goesTo}
-use Rattle.tables.specs.Look.{cell, entry, entryOf, exported, referred, busy, lowestFreeCell, lowestFreeEntry, lowestEmptySlot, booked, freeCells, message, putCell, putEntry, putMessage, changed}
+use Rattle.tables.specs.Look.{cell, entry, entryOf, exported, referred, busy, lowestFreeCell, lowestFreeEntry, lowestEmptySlot, booked, freeCells, message, changed}
 use Rattle.rules.specs.Answers.{Check, _when_, refuse, checked}
 use Rattle.rules.specs.Machines.{Laws}
 use Rattle.rules.specs.Facts.{CellFact, Facts}
-use Rattle.rules.proofs.Inside.{cell-inside}
 use Rattle.rules.proofs.Named.{the-entry-of}
 use Rattle.rules.proofs.Busy.{own-entry, naming-ref, not-busy}
 use Rattle.rules.proofs.Derived.{bit-one, live-fact}
 use Rattle.rules.specs.Move.{ReadsOn, TrueValues, Carries, Makes, nothing, moved}
-use Rattle.rules.proofs.Moves.{cellMove, entryMove, put-cell-message, put-cell, put-entry-message, CellMoves, cell-keeps, ExMoves, ex-keeps, EntryMoves, entry-keeps}
+use Rattle.rules.proofs.Moves.{Stores}
 
 -- ---- refusals passed: none of the tests hit
 abbrev pub Passed : List Check → Type 0
@@ -156,32 +154,6 @@ module _ (𝓜 : Machine) (L : Laws 𝓜) (s : Tables) (F : Facts 𝓜 s) where
       go false x false y =
           absurd-bool t (not-busy 𝓜 s w c x y (ap isReading q) (ap isAsking q))
 
-  -- ---- the rules' stores are moves
-  pub makes-cell : (w c : ℕ) (k₀ k : Kind) → CellMoves 𝓜 L s w c k₀ k 0 (message s 0) (message s 0)
-      → ReadsOn 𝓜 s (cellMove 𝓜 s w c k₀ k 0 (message s 0) (message s 0)) → (TrueValues 𝓜 s → Carries 𝓜 s (cellMove 𝓜 s w c k₀ k 0 (message s 0) (message s 0)))
-      → Makes 𝓜 s (putCell 𝓜 s w c k)
-  makes-cell w c k₀ k M on C =
-      subst (Makes 𝓜 s) (put-cell 𝓜 L s w c k₀ k (M .w-in) (M .c-in))
-      (moved (cellMove 𝓜 s w c k₀ k 0 (message s 0) (message s 0)) (cell-keeps 𝓜 L s F w c k₀ k 0 (message s 0) (message s 0) M) on C)
-
-  pub makes-cell-message : (w c : ℕ) (k₀ k : Kind) (i : ℕ) (m₀ m : Message) → CellMoves 𝓜 L s w c k₀ k i m₀ m
-      → ReadsOn 𝓜 s (cellMove 𝓜 s w c k₀ k i m₀ m) → (TrueValues 𝓜 s → Carries 𝓜 s (cellMove 𝓜 s w c k₀ k i m₀ m))
-      → Makes 𝓜 s (putMessage (putCell 𝓜 s w c k) i m)
-  makes-cell-message w c k₀ k i m₀ m M on C =
-      subst (Makes 𝓜 s) (put-cell-message 𝓜 L s w c k₀ k i m₀ m (M .w-in) (M .c-in))
-      (moved (cellMove 𝓜 s w c k₀ k i m₀ m) (cell-keeps 𝓜 L s F w c k₀ k i m₀ m M) on C)
-
-  pub makes-ex : (w c o e n₀ n : ℕ) (st₀ st : Status) (a₀ a : Bool) (i : ℕ) (m₀ m : Message) → ExMoves 𝓜 L s F w c o e n₀ n st₀ st a₀ a i m₀ m
-      → ReadsOn 𝓜 s (cellMove 𝓜 s w c (Ex o e n₀ st₀ a₀) (Ex o e n st a) i m₀ m) → (TrueValues 𝓜 s → Carries 𝓜 s (cellMove 𝓜 s w c (Ex o e n₀ st₀ a₀) (Ex o e n st a) i m₀ m))
-      → Makes 𝓜 s (putMessage (putCell 𝓜 s w c (Ex o e n st a)) i m)
-  makes-ex w c o e n₀ n st₀ st a₀ a i m₀ m M on C =
-      let inside = cell-inside 𝓜 s w c (ap isFree (M .old-cell)) in
-      subst (Makes 𝓜 s) (put-cell-message 𝓜 L s w c (Ex o e n₀ st₀ a₀) (Ex o e n st a) i m₀ m (inside .0) (inside .1))
-      (moved (cellMove 𝓜 s w c (Ex o e n₀ st₀ a₀) (Ex o e n st a) i m₀ m) (ex-keeps 𝓜 L s F w c o e n₀ n st₀ st a₀ a i m₀ m M) on C)
-
-  pub makes-entry : (o e : ℕ) (x₀ x : Holding) (i : ℕ) (m₀ m : Message) → EntryMoves 𝓜 L s F o e x₀ x i m₀ m
-      → ReadsOn 𝓜 s (entryMove 𝓜 s o e x₀ x i m₀ m) → (TrueValues 𝓜 s → Carries 𝓜 s (entryMove 𝓜 s o e x₀ x i m₀ m))
-      → Makes 𝓜 s (putMessage (putEntry 𝓜 s o e x) i m)
-  makes-entry o e x₀ x i m₀ m M on C =
-      subst (Makes 𝓜 s) (put-entry-message 𝓜 L s o e x₀ x i m₀ m (M .o-in) (M .e-in))
-      (moved (entryMove 𝓜 s o e x₀ x i m₀ m) (entry-keeps 𝓜 L s F o e x₀ x i m₀ m M) on C)
+-- a store of the rules, made by a call
+pub makes-by : (𝓜 : Machine) (s : Tables) {s′ : Tables} (S : Stores 𝓜 s s′) → ReadsOn 𝓜 s (S .move) → (TrueValues 𝓜 s → Carries 𝓜 s (S .move)) → Makes 𝓜 s s′
+makes-by 𝓜 s S on C = subst (Makes 𝓜 s) (S .is) (moved (S .move) (S .keeps) on C)
