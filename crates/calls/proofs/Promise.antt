@@ -13,7 +13,7 @@ use Rattle.tables.specs.declared.State.{State}
 use Rattle.tables.specs.declared.Reply.{Reply}
 use Rattle.tables.specs.declared.Call.{Call}
 use Rattle.tables.specs.declared.Call.the-variants.{Start, New, Set, Bind, Export, Indirect, Transfer, Drop, ReadCell, AskWeight, Deliver, Bound}
-use Rattle.tables.specs.declared.Status.the-variants.{Reading}
+use Rattle.tables.specs.declared.Status.the-variants.{Reading, Known}
 use Rattle.tables.specs.declared.Kind.the-variants.{Ex}
 use Rattle.tables.specs.declared.Outcome.the-variants.{Done}
 use Rattle.tables.specs.declared.Place.the-variants.{At}
@@ -25,9 +25,10 @@ use Rattle.rules.specs.Sound.{held, sound}
 use Rattle.rules.specs.Chains.{EndsIn}
 use Rattle.rules.specs.Calls.{bound, B}
 use Rattle.rules.specs.Deliver.{deliver}
+use Rattle.rules.specs.Machines.{Sized}
 use Rattle.rules.specs.Step.{isStart, step, drained, successes, Reached, begun, after}
-use Rattle.rules.specs.Statements.{messageNames, ComesToAnEnd, holdsReady, AtRest, readOfUnbound, KnownWith, KeepsContext}
-use Rattle.rules.proofs.Eight.{demand-3-of-eight}
+use Rattle.rules.specs.Statements.{messageNames, ComesToAnEnd, holdsReady, AtRest, readOfUnbound, KnownWith, KeepsNaming, KeepsContext}
+use Rattle.rules.proofs.Eight.{demand-3-of-eight, calls-keep-sound-of-eight}
 use Rattle.calls.proofs.start.Reads as start-contract
 use Rattle.calls.proofs.new.Reads as new-contract
 use Rattle.calls.proofs.set.Reads as set-contract
@@ -115,9 +116,11 @@ pub record Promised (s : State) : Type 0 where
   pub brought : (ks : List ℕ) (n : ℕ) (t : State) → DeliveredByReplies s ks n t → AtRest eight (tables t)
       → (w c o e m v : ℕ) (a : Bool) → cell eight (tables s) w c ≡ Ex o e m Reading a → EndsIn eight (tables s) (At o e) v
       → KnownWith eight (tables t) w c o e v
+  pub known-is-true : (w c o e n v : ℕ) (a : Bool) → cell eight (tables s) w c ≡ Ex o e n (Known v) a → EndsIn eight (tables s) (At o e) v
   pub refers-to-live : (o e : ℕ)
       → ((w c : ℕ) → exNames o e (cell eight (tables s) w c) ≡ true → isLive (entry eight (tables s) o e) ≡ true)
       × ((k : ℕ) → messageNames o e (message (tables s) k) ≡ true → isLive (entry eight (tables s) o e) ≡ true)
+  pub reference-keeps-naming : (q : Call) → isStart q ≡ false → (r : Reply) → Replies s q r → KeepsNaming eight (tables s) (tables (r .state))
   pub reference-keeps-context : (q : Call) → isStart q ≡ false → (r : Reply) → Replies s q r
       → (o e : ℕ) → isLive (entry eight (tables s) o e) ≡ true → isLive (entry eight (tables (r .state)) o e) ≡ true
       → KeepsContext eight (tables s) (tables (r .state)) o e
@@ -228,7 +231,15 @@ promised s g =
           λ ks n t d rest w c o e m v a is ends.
           let q = delivered-rules s ks n t d .1 in
           subst (λ (y : Tables). KnownWith eight y w c o e v) (sym q) (D .brought (tables s) r w c o e m v a is ends ks (subst (AtRest eight) q rest));
+      known-is-true = D .known-is-true (tables s) r;
       refers-to-live = D .refers-to-live (tables s) r;
+      reference-keeps-naming =
+          λ q n x m. subst (KeepsNaming eight (tables s)) (sym (next-is s q x m)) (D .reference-keeps-naming (tables s) r q n);
       reference-keeps-context =
           λ q n x m o e live. subst (λ (t : Tables). isLive (entry eight t o e) ≡ true → KeepsContext eight (tables s) t o e) (sym (next-is s q x m)) (D .reference-keeps-context (tables s) r q n o e live);
     }
+
+-- ---- and of any sound state of the machine's sizes: whatever the call, the state in its reply is sound
+pub sound-stays : (s : State) → Sized eight (tables s) → sound eight (tables s) ≡ true → (q : Call) (r : Reply) → Replies s q r
+    → sound eight (tables (r .state)) ≡ true
+sound-stays s z h q r m = subst (λ (t : Tables). sound eight t ≡ true) (sym (next-is s q r m)) (calls-keep-sound-of-eight (tables s) z h q)

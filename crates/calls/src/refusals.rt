@@ -1,5 +1,5 @@
-// The table of refusal numbers: the lines that several calls share, each list in its order, on what the call has looked up; and the
-// tests behind them.
+// The table of refusal numbers: lists of lines that a call tests, each in its order, on what the call has looked up; and the tests behind
+// them.
 ghost use mathlib.Core.Path.{_≡_};
 ghost use mathlib.Core.Bool.{cond};
 ghost use mathlib.Core.List.{[], _∷_};

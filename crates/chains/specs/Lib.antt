@@ -1,2 +1,2 @@
--- The table of steps along ends and references.
-pub mod Steps
+-- The table of hops along ends and references.
+pub mod Hops

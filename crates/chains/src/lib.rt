@@ -4,7 +4,7 @@ ghost use Rattle.numbers.specs.Below.{walkMeets};
 ghost use Rattle.tables.specs.declared.Place.the-variants.{At};
 ghost use Rattle.tables.specs.Machine.{eight, tables};
 ghost use Rattle.tables.specs.Parts.{isAt};
-ghost use Rattle.chains.specs.Steps.{Followed, nextSeen, stepBy};
+ghost use Rattle.chains.specs.Hops.{Followed, nextSeen, stepBy};
 use tables::ALL_ENTRIES;
 use tables::ENTRIES;
 use tables::ENTRY_ROW;
@@ -13,21 +13,21 @@ use tables::State;
 use tables::WORKERS;
 
 // Where one step leads.
-pub struct Step {
+pub struct Hop {
     pub next: Place,
 }
 
-// The steps of all entries, entry e of worker w at w * ENTRY_ROW + e.
-pub struct Steps {
-    pub steps: [Step; ALL_ENTRIES],
+// The hops of all entries, entry e of worker w at w * ENTRY_ROW + e.
+pub struct Hops {
+    pub hops: [Hop; ALL_ENTRIES],
 }
 
 // The step from each entry, to what the end of its cell names. A free entry leads nowhere.
-pub fn steps_of(s: State) -> Steps
-    ensures { λ r. ⌜ Followed eight (tables s) (r .steps) 128 ⌝ }
+pub fn hops_of(s: State) -> Hops
+    ensures { λ r. ⌜ Followed eight (tables s) (r .hops) 128 ⌝ }
 {
-    let mut t = Steps {
-        steps: [Step {
+    let mut t = Hops {
+        hops: [Hop {
             next: Place::Nowhere,
         }; ALL_ENTRIES],
     };
@@ -35,7 +35,7 @@ pub fn steps_of(s: State) -> Steps
         let x = s.entries[i];
         let holding = x.holding;
         if parts::is_unused(holding) {
-            t.steps[i] = Step {
+            t.hops[i] = Hop {
                 next: Place::Nowhere,
             };
             continue;
@@ -51,7 +51,7 @@ pub fn steps_of(s: State) -> Steps
         let z = s.cells[g];
         let far = z.kind;
         let next = parts::named_by(places::cell_seen(w, d, far));
-        t.steps[i] = Step { next: next };
+        t.hops[i] = Hop { next: next };
     }
     t
 }
@@ -68,7 +68,7 @@ fn next_at(o: u8, e: u8, next: Place) -> Place
     next
 }
 
-// The place after p, where `next` is read in the table of steps.
+// The place after p, where `next` is read in the table of hops.
 fn next_seen(p: Place, next: Place) -> Place
     ensures { λ r. ⌜ r ≡ nextSeen eight p next ⌝ }
 {
@@ -79,8 +79,8 @@ fn next_seen(p: Place, next: Place) -> Place
 }
 
 // The entry e of worker o is at the place from, or reached from there.
-pub fn reached(t: Steps, from: Place, o: u8, e: u8) -> bool
-    ensures { λ r. ⌜ r ≡ walkMeets (isAt o e) (stepBy eight (t .steps)) 128 from ⌝ }
+pub fn reached(t: Hops, from: Place, o: u8, e: u8) -> bool
+    ensures { λ r. ⌜ r ≡ walkMeets (isAt o e) (stepBy eight (t .hops)) 128 from ⌝ }
 {
     let mut at = from;
     for i in 0..ALL_ENTRIES {
@@ -88,7 +88,7 @@ pub fn reached(t: Steps, from: Place, o: u8, e: u8) -> bool
             return true;
         }
         let j = places::place_index(at);
-        let x = t.steps[j];
+        let x = t.hops[j];
         let next = x.next;
         at = next_seen(at, next);
     }

@@ -53,7 +53,7 @@ pub fn all_free(p: u8) -> State
     }
 }
 
-// The sum of two weights. In a sound state no weight passes the ceiling; a sum beyond it is never asked for.
+// The sum of two weights. In a sound state no weight passes the ceiling; where one does, the answer is not used.
 fn add_weights(a: u32, b: u32) -> u32
     ensures { λ r. ⌜ (a ≤ 1048576 → b ≤ 1048576 → r ≡ a + b) ⌝ }
 {

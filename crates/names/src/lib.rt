@@ -97,8 +97,8 @@ fn entry_names(w: u8, x: Holding, k: Kind, end: Kind, entry: Holding, twins: u8)
     match x {
         Holding::Unused => true,
         Holding::Live { tainted, .. } => {
-            let bound = either(parts::is_var(end), parts::is_val(end));
-            let good = either(bound, is_safe(w, end, entry));
+            let plain = either(parts::is_var(end), parts::is_val(end));
+            let good = either(plain, is_safe(w, end, entry));
             both(both(!parts::is_free(k), twins <= 1), either(tainted, good))
         }
     }

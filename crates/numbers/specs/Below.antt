@@ -1,5 +1,5 @@
 -- Tests, sums, counts and searches over the numbers below a bound, and walks of bounded length.
--- None is an `abbrev`: at a numeral bound it would be written out term by term. Assumes nothing.
+-- None that recurses is an `abbrev`: at a numeral bound it would be written out term by term. Assumes nothing.
 use Prim.Native.Nat.{ℕ, zero, suc, _+_}
 use mathlib.Core.Bool.{Bool, true, false, _&&_, cond}
 use lib.Dec.{ltb}

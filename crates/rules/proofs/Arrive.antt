@@ -7,7 +7,7 @@ use mathlib.Core.Bool.{Bool, true, false, _&&_, _||_, not, cond}
 use mathlib.Core.Logic.{inl, inr}
 use lib.Dec.{eqb, ltb, leb}
 use lib.ListN.{length, List·getD-eq-default}
-use borrow.Author.Tests.{ltb-true, ltb-false, leb-true, leb-false, eqb-false, eq-eqb}
+use borrow.Author.Tests.{ltb-true, ltb-false, leb-true, leb-false, eqb-true, eqb-false, eq-eqb}
 use Rattle.numbers.specs.Below.{bit}
 use Rattle.numbers.specs.Tests.{absurd-bool}
 use Rattle.numbers.specs.BelowLaws.{lowest-at, lowest-past}
@@ -34,7 +34,7 @@ use Rattle.rules.specs.Facts.{EntryFact, MessageFact, Facts, ReadAhead, 
 use Rattle.rules.proofs.Inside.{cell-inside, entry-inside, message-total}
 use Rattle.rules.proofs.Named.{nowhere-at, the-live, ExOf, the-ex-of, eq-both, both-eq}
 use Rattle.rules.proofs.Derived.{live-fact, held-live, message-held, names-live, reading-cell, asking-cell, LivePlace, named-place, read-live}
-use Rattle.rules.specs.Move.{next, Keeps, TrueValues, Makes}
+use Rattle.rules.specs.Move.{next, ReferenceGoes, Keeps, TrueValues, Makes}
 use Rattle.rules.proofs.Next.{cell-stored}
 use Rattle.rules.proofs.Kept.{facts-kept}
 use Rattle.rules.proofs.Walks.{follow-live, ahead-add, ends-before}
@@ -71,6 +71,7 @@ module _ (𝓜 : Machine) (L : Laws 𝓜) (s : Tables) (F : Facts 𝓜 s) (reads
     pub no-read : (v d : ℕ) → readsFor v d m₀ ≡ false
     pub no-ask : (v d : ℕ) → asksFor v d m₀ ≡ false
     pub cost : (t : Tables) (ρ : ℕ → ℕ → ℕ) → 1 ≤ spends 𝓜 t ρ m₀
+    pub goes : (v : ℕ) (y : Kind) → ReferenceGoes v y m₀
 
   -- what it brings is held there
   brought-held : (k o e w : ℕ) (m₀ : Message) → Brings k o e w m₀ → w ≤ held 𝓜 s o e
@@ -108,6 +109,7 @@ module _ (𝓜 : Machine) (L : Laws 𝓜) (s : Tables) (F : Facts 𝓜 s) (reads
             message-ok = tt;
             entry-kept = kept;
             entry-new = new;
+            reference-kept = B .goes;
             reads = λ v d. sym (ap bit (B .no-read v d));
             asks = λ v d. sym (ap bit (B .no-ask v d));
             weights = λ a b. omega (arith, B .holds a b, cond-add (eqb o a && eqb e b) (entryWeight x) w (entryWeight x₀) less);
@@ -161,6 +163,7 @@ module _ (𝓜 : Machine) (L : Laws 𝓜) (s : Tables) (F : Facts 𝓜 s) (reads
             old-cell = x .is;
             old-message = q;
             some = omega (arith, f .1);
+            reference-kept = inr (refl, eq-both o e);
             message-ok = tt;
             reads = λ v d. refl;
             asks = λ v d. refl;
@@ -186,6 +189,8 @@ module _ (𝓜 : Machine) (L : Laws 𝓜) (s : Tables) (F : Facts 𝓜 s) (reads
             message-ok = inr tt;
             busy-kept = λ b v. absurd (free-not-busy 𝓜 L s F to c (free .1) b);
             var-kept = λ y v. absurd-bool v refl;
+            ex-kept = λ a b t u. absurd-bool t refl;
+            reference-kept = inr (inr (refl, eq-both o e));
             ex-new = λ d a b t u. absurd-bool (named d a b t u) (unnamed d a b t u);
             reads = λ v d. refl;
             asks = λ v d. refl;
@@ -234,6 +239,7 @@ module _ (𝓜 : Machine) (L : Laws 𝓜) (s : Tables) (F : Facts 𝓜 s) (reads
         message-ok = ok (next 𝓜 s (slotMove 𝓜 s k (Read r c o e) m));
         entry-kept = λ a b. (refl, refl);
         entry-new = λ f d a b. F .entry-once 0 f 0 d b a;
+        reference-kept = λ v y. tt;
         reads = λ v d. ap bit (reads v d);
         asks = λ v d. ap bit (asks v d);
         weights = λ a b. omega (arith, holds s a b);
@@ -339,7 +345,7 @@ module _ (𝓜 : Machine) (L : Laws 𝓜) (s : Tables) (F : Facts 𝓜 s) (reads
       go (Ex o e n Reading a) i t =
           let h = cellMove 𝓜 s r c (Ex o e n Reading a) (Ex o e n (Known v) a) k (Answer r c v) Empty in
           let inside = cell-inside 𝓜 s r c (ap isFree i) in
-          let M : ExMoves 𝓜 L s F r c o e n n Reading (Known v) a a k (Answer r c v) Empty = record { i-in = within; old-cell = i; old-message = q; some = weight-some 𝓜 L s F r c o e n Reading a i; message-ok = tt; reads = λ x d. mark-off (eqb r x && eqb c d); asks = λ x d. refl; weights = λ x y. refl; holds-ok = λ x y. refl; room = λ x. omega (arith, F .room x) } in
+          let M : ExMoves 𝓜 L s F r c o e n n Reading (Known v) a a k (Answer r c v) Empty = record { i-in = within; old-cell = i; old-message = q; some = weight-some 𝓜 L s F r c o e n Reading a i; reference-kept = tt; message-ok = tt; reads = λ x d. mark-off (eqb r x && eqb c d); asks = λ x d. refl; weights = λ x y. refl; holds-ok = λ x y. refl; room = λ x. omega (arith, F .room x) } in
           let K = ex-keeps 𝓜 L s F r c o e n n Reading (Known v) a a k (Answer r c v) Empty M in
           let here = cell-stored 𝓜 s h (F .sized) (K .placed) .here in
           let live = subst (LivePlace 𝓜 (next 𝓜 s h)) (ap namedBy here) (named-place 𝓜 (next 𝓜 s h) (facts-kept 𝓜 s h F K) r c) in
@@ -367,6 +373,7 @@ module _ (𝓜 : Machine) (L : Laws 𝓜) (s : Tables) (F : Facts 𝓜 s) (reads
             old-cell = i;
             old-message = q;
             some = omega (arith, weight-some 𝓜 L s F a c o e n st true i);
+            reference-kept = tt;
             message-ok = tt;
             reads = λ v d. refl;
             asks = λ v d. mark-off (eqb a v && eqb c d);
@@ -404,6 +411,7 @@ module _ (𝓜 : Machine) (L : Laws 𝓜) (s : Tables) (F : Facts 𝓜 s) (reads
             message-ok = tt;
             entry-kept = λ y z. (refl, refl);
             entry-new = λ y z u v. F .entry-once o y e z v (ap (entryNames z) i ∙ u);
+            reference-kept = λ v y. tt;
             reads = λ v y. refl;
             asks = λ v y. refl;
             weights = λ y z. omega (arith, cond-add (eqb o y && eqb e z) n w (n + w) refl, ap (λ (b : Bool). cond b w 0) (at-place y z));
@@ -414,15 +422,15 @@ module _ (𝓜 : Machine) (L : Laws 𝓜) (s : Tables) (F : Facts 𝓜 s) (reads
           (λ y. refl) (kind-same (cell 𝓜 s 0 0)) (λ ρ R. omega arith)
 
   -- ---- every message
-  reference-brings : (k to o e w : ℕ) → message s k ≡ Reference to o e w → Brings k o e w (Reference to o e w)
-  reference-brings k to o e w q =
+  reference-brings : (k to o e w : ℕ) → message s k ≡ Reference to o e w → to ≡ o → Brings k o e w (Reference to o e w)
+  reference-brings k to o e w q is-home =
       let f : MessageFact 𝓜 s (Reference to o e w) = subst (MessageFact 𝓜 s) q (F .messages k) in
-      record { slot = q; full = refl; holds = λ a b. refl; some = f .1; no-read = λ v d. refl; no-ask = λ v d. refl; cost = λ t ρ. omega arith }
+      record { slot = q; full = refl; holds = λ a b. refl; some = f .1; no-read = λ v d. refl; no-ask = λ v d. refl; cost = λ t ρ. omega arith; goes = λ v y. inl is-home }
 
   release-brings : (k o e w : ℕ) → message s k ≡ Release o e w → Brings k o e w (Release o e w)
   release-brings k o e w q =
       let f : MessageFact 𝓜 s (Release o e w) = subst (MessageFact 𝓜 s) q (F .messages k) in
-      record { slot = q; full = refl; holds = λ a b. refl; some = f; no-read = λ v d. refl; no-ask = λ v d. refl; cost = λ t ρ. omega arith }
+      record { slot = q; full = refl; holds = λ a b. refl; some = f; no-read = λ v d. refl; no-ask = λ v d. refl; cost = λ t ρ. omega arith; goes = λ v y. tt }
 
   -- a message that is there, and ready, arrives
   pub message-arrives : (k : ℕ) (m : Message) → message s k ≡ m → isEmpty m ≡ false → ready 𝓜 s m ≡ true → Delivers 𝓜 s (made 𝓜 s (deliverMessage 𝓜 s k m) .after)
@@ -431,7 +439,7 @@ module _ (𝓜 : Machine) (L : Laws 𝓜) (s : Tables) (F : Facts 𝓜 s) (reads
   message-arrives k (Reference to o e w) q full is-ready = go (eqb to o) refl
     where
       go : (b : Bool) → eqb to o ≡ b → Delivers 𝓜 s (changed 𝓜 s (cond b (deliverHome 𝓜 s k o e w) (deliverAway 𝓜 s k to o e w) .change))
-      go true t = taken-arrives k o e w (Reference to o e w) (reference-brings k to o e w q)
+      go true t = taken-arrives k o e w (Reference to o e w) (reference-brings k to o e w q (eqb-true to o t))
       go false t = away-arrives k to o e w q t
   message-arrives k (Release o e w) q full is-ready = taken-arrives k o e w (Release o e w) (release-brings k o e w q)
   message-arrives k (Read r c o e) q full is-ready = read-arrives k r c o e q is-ready

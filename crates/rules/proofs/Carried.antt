@@ -1,4 +1,4 @@
--- Reads stay on their chains, and what is known stays true, under a change that brings what it must. Assumes nothing.
+-- Reads stay on their chains, and what is known stays true, under a move that brings what it must. Assumes nothing.
 use Prim.Native.Nat.{ℕ}
 use mathlib.Core.Path.{_≡_, refl, sym, ap, subst, _∙_}
 use mathlib.Core.Bool.{true}
@@ -66,7 +66,7 @@ module _ (𝓜 : Machine) (s : Tables) (h : Move) (F : Facts 𝓜 s) (K : Keeps 
   status-kept p Reading l f = tt
   status-kept p (Known v) l f = ends-kept 𝓜 s h F K p v l f
 
-  -- a cell that stands in the tables after the change
+  -- a cell that stands in the tables after the move
   known-kept : (v d : ℕ) (k : Kind) → cell 𝓜 (next 𝓜 s h) v d ≡ k → KnownFact 𝓜 s k → KnownFact 𝓜 (next 𝓜 s h) k
   known-kept v d Free q f = tt
   known-kept v d Var q f = tt

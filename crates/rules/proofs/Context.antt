@@ -1,8 +1,10 @@
 -- A reference keeps its context: what refers to an entry refers to a live one, and a move leaves what a live entry leads to. Assumes nothing.
 use Prim.Native.Nat.{ℕ, _≤_}
 use native.Mathlib.Omega.{arith}
-use mathlib.Core.Path.{_≡_, refl, sym, ap, ap₂, _∙_}
+use mathlib.Core.Path.{_≡_, refl, sym, ap, ap₂, subst, _∙_}
 use mathlib.Core.Bool.{Bool, true, _&&_, _||_, cond}
+use mathlib.Core.Logic.{_⊎_, inl, inr, ⊎-elim}
+use native.Mathlib.Decide.{ℕ-discrete}
 use lib.Dec.{eqb}
 use borrow.Author.Tests.{eq-eqb}
 use Rattle.numbers.specs.Tests.{absurd-bool}
@@ -13,17 +15,19 @@ use Rattle.tables.specs.declared.Message.{Message}
 use Rattle.tables.specs.declared.Message.the-variants.{Empty, Reference, Release, Read, Answer, Ask, Supply}
 use Rattle.tables.specs.declared.Place.the-variants.{At}
 use Rattle.tables.specs.Machine.{Machine, Tables}
-use Rattle.tables.specs.Parts.{isFree, isVar, isVal, isLive, entryNames, cellOf}
+use Rattle.tables.specs.Parts.{isFree, isVar, isVal, isEx, exNames, isLive, entryNames, cellOf}
 use Rattle.tables.specs.Look.{cell, entry, exported, message}
 use Rattle.rules.specs.Chains.{ahead, LeadsTo}
 use Rattle.rules.specs.Sound.{messageHolds}
 use Rattle.rules.specs.Facts.{MessageFact, Facts, Reads}
-use Rattle.rules.specs.Move.{Move, next, shown, Keeps, Makes, nothing, moved}
-use Rattle.rules.specs.Statements.{messageNames, Continues, as-it-was, given-a-value, bound-to, KeepsContext}
+use Rattle.rules.specs.Move.{Move, next, shown, ReferenceGoes, Keeps, Makes, nothing, moved}
+use Rattle.rules.specs.Statements.{messageNames, Gone, home, away, KeepsNaming, Continues, as-it-was, given-a-value, bound-to, KeepsContext}
 use Rattle.rules.proofs.Named.{the-live, the-entry-of, names-live-entry, both-eq, eq-both}
 use Rattle.rules.proofs.Busy.{exported-by}
 use Rattle.rules.proofs.Derived.{live-fact, held-live, sent-held, names-live, LivePlace, live-place, ahead-place, read-live}
 use Rattle.rules.proofs.Kept.{shown-plain, exported-shown, VarAfter, var-or-val, ref-to-safe, var-after, live-kept, facts-kept}
+use Rattle.rules.proofs.Stored.{stored-each}
+use Rattle.rules.proofs.Next.{cell-stored, slot-here, slot-other}
 use Rattle.rules.proofs.Onward.{ahead-kept}
 
 module _ (𝓜 : Machine) (s : Tables) (F : Facts 𝓜 s) where
@@ -113,3 +117,38 @@ context-made 𝓜 s t F (nothing) o e live live′ =
       same-context = λ w c x. as-it-was refl;
     }
 context-made 𝓜 s t F (moved h K on C) o e live live′ = context-kept 𝓜 s h F K o e live live′
+
+-- ---- what an EX and a Reference name
+naming-kept : (𝓜 : Machine) (s : Tables) (h : Move) → Facts 𝓜 s → Keeps 𝓜 s h → KeepsNaming 𝓜 s (next 𝓜 s h)
+naming-kept 𝓜 s h F K =
+    record {
+      same-entry = λ w c o e.
+          stored-each (cell-stored 𝓜 s h (F .sized) (K .placed)) (λ v d x y. exNames o e x ≡ true → isEx y ≡ true → exNames o e y ≡ true)
+          (K .ex-kept o e) (λ v d f t u. t) w c;
+      same-reference = λ k to o e n q. reference k to o e n q (ℕ-discrete k (h .i));
+    }
+  where
+    here : cell 𝓜 (next 𝓜 s h) (h .w) (h .c) ≡ h .k
+    here = cell-stored 𝓜 s h (F .sized) (K .placed) .here
+
+    gone : (to o e n : ℕ) → h .m₀ ≡ Reference to o e n → (h .m ≡ h .m₀) ⊎ ReferenceGoes (h .w) (h .k) (h .m₀)
+        → (h .m ≡ h .m₀) ⊎ Gone 𝓜 (next 𝓜 s h) to o e
+    gone to o e n q (inl same) = inl same
+    gone to o e n q (inr g) = inr (by (subst (ReferenceGoes (h .w) (h .k)) q g))
+      where
+        by : (to ≡ o) ⊎ ((h .w ≡ to) × (exNames o e (h .k) ≡ true)) → Gone 𝓜 (next 𝓜 s h) to o e
+        by (inl at-home) = home at-home
+        by (inr x) =
+            away (h .c) (sym (ap (λ (v : ℕ). exNames o e (cell 𝓜 (next 𝓜 s h) v (h .c))) (x .0)) ∙ ap (exNames o e) here ∙ x .1)
+
+    reference : (k to o e n : ℕ) → message s k ≡ Reference to o e n → Dec (k ≡ h .i)
+        → (message (next 𝓜 s h) k ≡ message s k) ⊎ Gone 𝓜 (next 𝓜 s h) to o e
+    reference k to o e n q (yes same) =
+        let was : message s k ≡ h .m₀ = ap (message s) same ∙ K .placed .old-message in
+        let now : message (next 𝓜 s h) k ≡ h .m = ap (message (next 𝓜 s h)) same ∙ slot-here 𝓜 s h (F .sized) (K .placed) in
+        ⊎-elim (λ r. inl (now ∙ r ∙ sym was)) inr (gone to o e n (sym was ∙ q) (K .reference-kept))
+    reference k to o e n q (no other) = inl (slot-other 𝓜 s h (F .sized) (K .placed) k other)
+
+pub naming-made : (𝓜 : Machine) (s t : Tables) → Facts 𝓜 s → Makes 𝓜 s t → KeepsNaming 𝓜 s t
+naming-made 𝓜 s t F (nothing) = record { same-entry = λ w c o e n x. n; same-reference = λ k to o e n q. inl refl }
+naming-made 𝓜 s t F (moved h K on C) = naming-kept 𝓜 s h F K

@@ -1,4 +1,4 @@
--- A change of an entry and a slot leaves every cell and every end as it was. Assumes nothing.
+-- A move of an entry and a slot leaves every cell and every end as it was. Assumes nothing.
 use Prim.Native.Nat.{ℕ, _<_, _≤_}
 use mathlib.Core.Path.{_≡_, refl, sym, ap, _∙_}
 use mathlib.Core.Bool.{Bool, true, false, _&&_, not}

@@ -1,4 +1,4 @@
--- The facts of a sound state stay under a change that keeps what it must. Assumes nothing.
+-- The facts of a sound state stay under a move that keeps what it must. Assumes nothing.
 use Prim.Native.Nat.{ℕ}
 use native.Mathlib.Omega.{arith}
 use mathlib.Core.Path.{_≡_, refl, sym, ap, _∙_}
@@ -74,7 +74,7 @@ module _ (𝓜 : Machine) (t : Tables) where
       let x = the-ex k e in
       ap (safe 𝓜 t v) (x .is) ∙ sym (ap (varValOrSafe 𝓜 t v) (x .is)) ∙ h
 
--- the facts of s, and a change that keeps them
+-- the facts of s, and a move that keeps them
 module _ (𝓜 : Machine) (s : Tables) (h : Move) (F : Facts 𝓜 s) (K : Keeps 𝓜 s h) where
   s′ : Tables
   s′ = next 𝓜 s h
@@ -202,7 +202,7 @@ module _ (𝓜 : Machine) (s : Tables) (h : Move) (F : Facts 𝓜 s) (K : Keeps 
   good-safe : (t : Tables) (v : ℕ) (k : Kind) → safe 𝓜 t v k ≡ true → varValOrSafe 𝓜 t v k ≡ true
   good-safe t v k q = or-r (isVar k || isVal k) q
 
-  -- an exported VAR, after the change: itself, its value, or a REF to a safe EX that stays
+  -- an exported VAR, after the move: itself, its value, or a REF to a safe EX that stays
   pub data VarAfter (v : ℕ) (k : Kind) : Type 0 where
     var-or-val : (isVar k || isVal k) ≡ true → VarAfter v k
     ref-to-safe : (y : ℕ) → k ≡ Ref y → cell 𝓜 (next 𝓜 s h) v y ≡ cell 𝓜 s v y → safe 𝓜 s v (cell 𝓜 s v y) ≡ true → VarAfter v k

@@ -11,7 +11,7 @@ pub mod Walks
 pub mod Reach
 pub mod FromTest
 pub mod ToTest
--- A change that keeps what it must keeps the facts, the chains, what is known and the rank.
+-- A move that keeps what it must keeps the facts, the chains, what is known, the rank, and what a live entry leads to.
 pub mod Stored
 pub mod Next
 pub mod Kept
@@ -22,7 +22,7 @@ pub mod Rank
 pub mod Stays
 pub mod Context
 pub mod Count
--- Every call makes such a change, and every delivery leaves less to be delivered.
+-- Every call makes such a move, and every delivery leaves less to be delivered.
 pub mod Moves
 pub mod Measure
 pub mod Steps

@@ -26,7 +26,7 @@ use Rattle.rules.specs.Facts.{CellFact, MessageFact, ReadAhead, AnswerFa
 use Rattle.rules.proofs.Inside.{cell-inside}
 use Rattle.rules.proofs.Named.{the-ex, not-on-ex}
 use Rattle.rules.proofs.Busy.{idle-parts}
-use Rattle.rules.specs.Move.{next, Placed, VarBecomes, stays, bound, Makes}
+use Rattle.rules.specs.Move.{next, Placed, VarBecomes, stays, bound, ReferenceGoes, Makes}
 use Rattle.rules.proofs.Next.{cell-stored}
 use Rattle.rules.proofs.Moves.{cellMove, CellMoves}
 use Rattle.rules.proofs.Steps.{makes-checked, not-false, var-is, zero-cond, free-cell, empty-slot, has-room, room-sent, room-same, free-not-busy, makes-by}
@@ -73,6 +73,8 @@ module _ (𝓜 : Machine) (L : Laws 𝓜) (s : Tables) (F : Facts 𝓜 s) where
         message-ok = inl refl;
         busy-kept = λ b v. absurd (free-not-busy 𝓜 L s F w c q b);
         var-kept = λ x v. absurd-bool v refl;
+        ex-kept = λ a b t y. absurd-bool t refl;
+        reference-kept = inl refl;
         ex-new = λ d a b t y. absurd-bool t refl;
         reads = λ v d. refl;
         asks = λ v d. refl;
@@ -114,6 +116,8 @@ module _ (𝓜 : Machine) (L : Laws 𝓜) (s : Tables) (F : Facts 𝓜 s) where
         message-ok = inl refl;
         busy-kept = λ b v. absurd-bool refl v;
         var-kept = λ x v. becomes x;
+        ex-kept = λ a b t y. absurd-bool t refl;
+        reference-kept = inl refl;
         ex-new = λ d a b t y. absurd-bool t (not-on-ex false (λ owner entr n st z. eqb owner a && eqb entr b) k ne);
         reads = λ v d. ap (λ (z : Bool). bit (readsFor v d (message s 0)) + cond (eqb w v && eqb c d) (bit z) 0) (sym (not-on-ex false (λ o e n st z. readingOf st) k ne));
         asks = λ v d. ap (λ (z : Bool). bit (asksFor v d (message s 0)) + cond (eqb w v && eqb c d) (bit z) 0) (sym (not-on-ex false (λ o e n st z. z) k ne));
@@ -169,6 +173,7 @@ module _ (𝓜 : Machine) (L : Laws 𝓜) (s : Tables) (F : Facts 𝓜 s) where
     pub idle : busy 𝓜 s w c ≡ false
     pub old-message : message s i ≡ m₀
     pub message-ok : (m ≡ m₀) ⊎ MessageFact 𝓜 (next 𝓜 s (cellMove 𝓜 s w c k₀ Free i m₀ m)) m
+    pub reference-kept : (m ≡ m₀) ⊎ ReferenceGoes w Free m₀
     pub reads : (v d : ℕ) → bit (readsFor v d m) ≡ bit (readsFor v d m₀)
     pub asks : (v d : ℕ) → bit (asksFor v d m) ≡ bit (asksFor v d m₀)
     pub weights : (a b : ℕ) → cellHolds 𝓜 s a b k₀ + messageHolds 𝓜 s a b m₀ ≡ messageHolds 𝓜 s a b m
@@ -191,6 +196,8 @@ module _ (𝓜 : Machine) (L : Laws 𝓜) (s : Tables) (F : Facts 𝓜 s) where
         message-ok = f .message-ok;
         busy-kept = λ b v. absurd-bool b (f .idle);
         var-kept = λ x v. absurd-bool x (quiet .0);
+        ex-kept = λ a b t y. absurd-bool y refl;
+        reference-kept = f .reference-kept;
         ex-new = λ d a b t y. absurd-bool t refl;
         reads = λ v d. omega (arith, f .reads v d, ap (λ (z : Bool). cond (eqb w v && eqb c d) (bit z) 0) no-read);
         asks = λ v d. omega (arith, f .asks v d, ap (λ (z : Bool). cond (eqb w v && eqb c d) (bit z) 0) no-ask);
@@ -212,6 +219,7 @@ module _ (𝓜 : Machine) (L : Laws 𝓜) (s : Tables) (F : Facts 𝓜 s) where
         idle = idle;
         old-message = refl;
         message-ok = inl refl;
+        reference-kept = inl refl;
         reads = λ v d. refl;
         asks = λ v d. refl;
         weights = λ a b. omega (arith, light a b);
@@ -234,6 +242,7 @@ module _ (𝓜 : Machine) (L : Laws 𝓜) (s : Tables) (F : Facts 𝓜 s) where
         not-free = refl;
         idle = idle;
         old-message = slot .1;
+        reference-kept = inr tt;
         message-ok = inr (z .ok (next 𝓜 s (cellMove 𝓜 s w c (Ex o e n st a) Free (lowestEmptySlot 𝓜 s) Empty m)) refl);
         reads = λ v d. ap bit (z .no-read v d);
         asks = λ v d. ap bit (z .no-ask v d);

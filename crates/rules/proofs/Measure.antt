@@ -134,7 +134,7 @@ pub record Arrived (𝓜 : Machine) (s : Tables) (r : ℕ → ℕ → ℕ) (s′
   pub ends : (p : Place) (v : ℕ) → LivePlace 𝓜 s′ p → EndsIn 𝓜 s p v → EndsIn 𝓜 s′ p v
 
 module _ (𝓜 : Machine) (L : Laws 𝓜) (s : Tables) (I : Invariant 𝓜 s) (r : ℕ → ℕ → ℕ) (R : Ranked 𝓜 s r) where
-  -- where a change makes no entry, no more of them stand at a rank
+  -- where a move makes no entry, no more of them stand at a rank
   fewer : (h : Move) → Keeps 𝓜 s h → (isLive (h .x) ≡ true → isLive (h .x₀) ≡ true) → (ρ : ℕ) → standing 𝓜 (next 𝓜 s h) r ρ ≤ standing 𝓜 s r ρ
   unfolding standing
   fewer h K old ρ =

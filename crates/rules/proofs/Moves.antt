@@ -1,5 +1,5 @@
--- The changes that calls make: of a cell and a slot, or of an entry and a slot. What is left to show of each, once what it leaves alone is
--- taken off. Assumes nothing.
+-- The moves that calls make: of a cell and a slot, or of an entry and a slot. What is left to show of each, once what it leaves alone is
+-- taken off; and that the rules' stores are such moves. Assumes nothing.
 use Prim.Native.Nat.{ℕ, _+_, _*_, _<_, _≤_}
 use native.Mathlib.Omega.{arith}
 use mathlib.Core.Path.{_≡_, refl, ap, ap₂, subst, _∙_}
@@ -23,31 +23,31 @@ use Rattle.tables.specs.declared.Holding.the-variants.{Unused}
 use Rattle.tables.specs.declared.Message.{Message}
 use Rattle.tables.specs.declared.Message.the-variants.{Empty}
 use Rattle.tables.specs.Machine.{Machine, Tables, withCells, withEntries, withSlots}
-use Rattle.tables.specs.Parts.{readingOf, isFree, isVar, isVal, isReading, isAsking, exNames, isLive, isTainted, entryNames, entryWeight, goesTo, cellOf}
+use Rattle.tables.specs.Parts.{readingOf, isFree, isVar, isVal, isEx, isReading, isAsking, exNames, isLive, isTainted, entryNames, entryWeight, goesTo, cellOf}
 use Rattle.tables.specs.Look.{cell, entry, exported, busy, booked, freeCells, message, putCell, putEntry, putMessage}
 use Rattle.tables.specs.Laws.{cell-in, entry-in}
 use Rattle.rules.specs.Sound.{readsFor, asksFor, cellHolds, messageHolds}
 use Rattle.rules.specs.Machines.{Laws}
 use Rattle.rules.specs.Facts.{CellFact, EntryFact, MessageFact, Facts}
 use Rattle.rules.proofs.Inside.{cell-inside}
-use Rattle.rules.specs.Move.{Move, next, shown, VarBecomes, stays, Keeps}
+use Rattle.rules.specs.Move.{Move, next, shown, VarBecomes, stays, ReferenceGoes, Keeps}
 
--- a change of the cell c of worker w and of the slot i; the entry that stands first is left as it is
+-- a move of the cell c of worker w and of the slot i; the entry that stands first is left as it is
 abbrev pub cellMove : Machine → Tables → ℕ → ℕ → Kind → Kind → ℕ → Message → Message → Move
 cellMove 𝓜 s w c k₀ k i m₀ m =
     record { w = w; c = c; k₀ = k₀; k = k; o = 0; e = 0; x₀ = entry 𝓜 s 0 0; x = entry 𝓜 s 0 0; i = i; m₀ = m₀; m = m }
 
--- a change of the entry e of worker o and of the slot i
+-- a move of the entry e of worker o and of the slot i
 abbrev pub entryMove : Machine → Tables → ℕ → ℕ → Holding → Holding → ℕ → Message → Message → Move
 entryMove 𝓜 s o e x₀ x i m₀ m =
     record { w = 0; c = 0; k₀ = cell 𝓜 s 0 0; k = cell 𝓜 s 0 0; o = o; e = e; x₀ = x₀; x = x; i = i; m₀ = m₀; m = m }
 
--- a change of the slot i alone; the entry that stands first is left as it is
+-- a move of the slot i alone; the entry that stands first is left as it is
 abbrev pub slotMove : Machine → Tables → ℕ → Message → Message → Move
 slotMove 𝓜 s i m₀ m = entryMove 𝓜 s 0 0 (entry 𝓜 s 0 0) (entry 𝓜 s 0 0) i m₀ m
 
 module _ (𝓜 : Machine) (L : Laws 𝓜) (s : Tables) where
-  -- ---- the rules' stores, as changes
+  -- ---- the rules' stores, as moves
   same-entries : set (s .entries) (0 * 𝓜 .entries + 0) (record { holding = entry 𝓜 s 0 0 }) ≡ s .entries
   same-entries =
       ap (λ (y : Holding). set (s .entries) (0 * 𝓜 .entries + 0) (record { holding = y })) (entry-in 𝓜 s 0 0 (L .workers-some) (L .entries-some))
@@ -94,6 +94,8 @@ module _ (𝓜 : Machine) (L : Laws 𝓜) (s : Tables) where
     pub message-ok : (m ≡ m₀) ⊎ MessageFact 𝓜 (next 𝓜 s (cellMove 𝓜 s w c k₀ k i m₀ m)) m
     pub busy-kept : busy 𝓜 s w c ≡ true → isVar k₀ ≡ false → shown k ≡ shown k₀
     pub var-kept : exported 𝓜 s w c ≡ true → isVar k₀ ≡ true → VarBecomes 𝓜 s w k
+    pub ex-kept : (a b : ℕ) → exNames a b k₀ ≡ true → isEx k ≡ true → exNames a b k ≡ true
+    pub reference-kept : (m ≡ m₀) ⊎ ReferenceGoes w k m₀
     pub ex-new : (d a b : ℕ) → exNames a b k ≡ true → exNames a b (cell 𝓜 s w d) ≡ true → d ≡ c
     pub reads : (v d : ℕ)
         → bit (readsFor v d m) + cond (eqb w v && eqb c d) (bit (isReading k₀)) 0 ≡ bit (readsFor v d m₀) + cond (eqb w v && eqb c d) (bit (isReading k)) 0
@@ -114,6 +116,8 @@ module _ (𝓜 : Machine) (L : Laws 𝓜) (s : Tables) where
           message-ok = M .message-ok;
           busy-kept = M .busy-kept;
           var-kept = M .var-kept;
+          ex-kept = M .ex-kept;
+          reference-kept = M .reference-kept;
           entry-kept = λ a b. (refl, refl);
           ex-new = M .ex-new;
           entry-new = λ f d t u. F .entry-once 0 f 0 d u t;
@@ -130,6 +134,7 @@ module _ (𝓜 : Machine) (L : Laws 𝓜) (s : Tables) where
       pub old-cell : cell 𝓜 s w c ≡ Ex o e n₀ st₀ a₀
       pub old-message : message s i ≡ m₀
       pub some : 1 ≤ n
+      pub reference-kept : ReferenceGoes w (Ex o e n st a) m₀
       pub message-ok : MessageFact 𝓜 (next 𝓜 s (cellMove 𝓜 s w c (Ex o e n₀ st₀ a₀) (Ex o e n st a) i m₀ m)) m
       pub reads : (v d : ℕ)
           → bit (readsFor v d m) + cond (eqb w v && eqb c d) (bit (readingOf st₀)) 0 ≡ bit (readsFor v d m₀) + cond (eqb w v && eqb c d) (bit (readingOf st)) 0
@@ -154,6 +159,8 @@ module _ (𝓜 : Machine) (L : Laws 𝓜) (s : Tables) where
           message-ok = inr (M .message-ok);
           busy-kept = λ b v. refl;
           var-kept = λ x v. absurd-bool v refl;
+          ex-kept = λ x y t u. t;
+          reference-kept = inr (M .reference-kept);
           ex-new = λ d x y t u. F .ex-once w d c x y u (ap (exNames x y) (M .old-cell) ∙ t);
           reads = M .reads;
           asks = M .asks;
@@ -177,6 +184,7 @@ module _ (𝓜 : Machine) (L : Laws 𝓜) (s : Tables) where
       pub message-ok : MessageFact 𝓜 (next 𝓜 s (entryMove 𝓜 s o e x₀ x i m₀ m)) m
       pub entry-kept : isLive x₀ ≡ true → isLive x ≡ true → (cellOf x ≡ cellOf x₀) × (isTainted x ≡ isTainted x₀)
       pub entry-new : (f d : ℕ) → entryNames d x ≡ true → entryNames d (entry 𝓜 s o f) ≡ true → f ≡ e
+      pub reference-kept : (w : ℕ) (k : Kind) → ReferenceGoes w k m₀
       pub reads : (v d : ℕ) → bit (readsFor v d m) ≡ bit (readsFor v d m₀)
       pub asks : (v d : ℕ) → bit (asksFor v d m) ≡ bit (asksFor v d m₀)
       pub weights : (a b : ℕ)
@@ -193,6 +201,8 @@ module _ (𝓜 : Machine) (L : Laws 𝓜) (s : Tables) where
           message-ok = inr (M .message-ok);
           busy-kept = λ b v. refl;
           var-kept = λ t v. stays (var-or (cell 𝓜 s 0 0) v);
+          ex-kept = λ a b t u. t;
+          reference-kept = inr (M .reference-kept 0 (cell 𝓜 s 0 0));
           entry-kept = M .entry-kept;
           ex-new = λ d a b t u. F .ex-once 0 d 0 a b u t;
           entry-new = M .entry-new;

@@ -1,4 +1,4 @@
--- What stands in the tables after a change, and the sums over them. Assumes nothing.
+-- What stands in the tables after a move, and the sums over them. Assumes nothing.
 use Prim.Native.Nat.{ℕ, _+_, _*_, _<_}
 use native.Mathlib.Decide.{ℕ-discrete}
 use native.Mathlib.Omega.{arith}
@@ -43,20 +43,23 @@ module _ (𝓜 : Machine) (s : Tables) (h : Move) (z : Sized 𝓜 s) (P : Placed
   slot-place : h .i < length (s .slots)
   slot-place = omega (arith, z .slots-long, P .i-in)
 
+  pub slot-here : message (next 𝓜 s h) (h .i) ≡ h .m
+  slot-here = ap (λ (y : Slot). y .message) (getD-set-same (s .slots) (h .i) (record { message = h .m }) (record { message = Empty }) slot-place)
+
+  pub slot-other : (j : ℕ) → (j ≡ h .i → ⊥) → message (next 𝓜 s h) j ≡ message s j
+  slot-other j q = ap (λ (y : Slot). y .message) (getD-set-other (s .slots) (h .i) j (record { message = h .m }) (record { message = Empty }) q)
+
   -- a fact of each message before, where the new one has it too
   pub messages-all : (T : Message → Type 0) → ((j : ℕ) → T (message s j)) → (h .m ≡ h .m₀) ⊎ T (h .m) → (j : ℕ) → T (message (next 𝓜 s h) j)
   messages-all T before fresh j = go (ℕ-discrete j (h .i)) fresh
     where
       here : j ≡ h .i → message (next 𝓜 s h) j ≡ h .m
-      here q =
-          ap (message (next 𝓜 s h)) q
-          ∙ ap (λ (y : Slot). y .message) (getD-set-same (s .slots) (h .i) (record { message = h .m }) (record { message = Empty }) slot-place)
+      here q = ap (message (next 𝓜 s h)) q ∙ slot-here
 
       go : Dec (j ≡ h .i) → (h .m ≡ h .m₀) ⊎ T (h .m) → T (message (next 𝓜 s h) j)
       go (yes q) (inl e) = subst T (P .old-message ∙ sym e ∙ sym (here q)) (before (h .i))
       go (yes q) (inr t) = subst T (sym (here q)) t
-      go (no q) f =
-          subst T (sym (ap (λ (y : Slot). y .message) (getD-set-other (s .slots) (h .i) j (record { message = h .m }) (record { message = Empty }) q))) (before j)
+      go (no q) f = subst T (sym (slot-other j q)) (before j)
 
   pub next-sized : Sized 𝓜 (next 𝓜 s h)
   next-sized =

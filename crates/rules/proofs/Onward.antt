@@ -1,4 +1,4 @@
--- What a change keeps of chains: a step from an entry that is live before and after stays, an end that is a value stays, and a new step leads
+-- What a move keeps of chains: a step from an entry that is live before and after stays, an end that is a value stays, and a new step leads
 -- from a VAR that was bound to a safe EX, or from a new entry. Assumes nothing.
 use Prim.Native.Nat.{ℕ, zero, suc}
 use native.Mathlib.Omega.{arith}
@@ -103,7 +103,7 @@ module _ (𝓜 : Machine) (s : Tables) (h : Move) (F : Facts 𝓜 s) (K : Keeps 
       go d was (as-before p v) = p ∙ was
       go d was (newly-bound y i p v) = nowhere-at (sym (ap namedBy (end-self 𝓜 s a d Var i refl)) ∙ was)
 
-  -- and so does a walk from a place that is live after the change
+  -- and so does a walk from a place that is live after the move
   pub ahead-kept : (n : ℕ) (p : Place) (o e : ℕ) → LivePlace 𝓜 (next 𝓜 s h) p → ahead 𝓜 s n p ≡ At o e → ahead 𝓜 (next 𝓜 s h) n p ≡ At o e
   unfolding ahead follow
   ahead-kept zero p o e l q = q

@@ -1,18 +1,41 @@
 -- "Where several apply, the lowest is given": `checked` gives the first of a call's refusals that applies, the refusals of every call stand
 -- in the order of precedence, and that of document 01's refusals is the order of their numbers. Assumes nothing.
-use Prim.Native.Nat.{ℕ, _*_}
+use Prim.Native.Nat.{ℕ, _*_, _≤_}
+use native.Mathlib.Omega.{arith}
 use mathlib.Core.Path.{_≡_, refl}
 use mathlib.Core.Bool.{Bool, true, false, cond}
-use mathlib.Core.List.{_++_}
+use mathlib.Core.List.{List, _∷_, _++_}
+use lib.Dec.{leb}
+use borrow.Author.Tests.{leb-true}
+use Rattle.numbers.specs.Tests.{and-l, and-r}
 use Rattle.tables.specs.declared.Refusal.{Refusal}
 use Rattle.tables.specs.declared.Refusal.the-variants.{WorkerCount, NotSound, NoWorker, ToItself, NoCell, WrongKind, Busy, Unsafe, LastWeight, OverCeiling, NoEntry, NoRoom, NoSlot, NoMessage, NotReady}
+use Rattle.tables.specs.declared.Effect.{Effect}
 use Rattle.tables.specs.Machine.{Machine, Tables}
 use Rattle.tables.specs.Parts.{isEx}
 use Rattle.tables.specs.Look.{cell, end, endKind, room}
-use Rattle.rules.specs.Answers.{numberOf, precedence}
+use Rattle.rules.specs.Answers.{Check, _when_, checked, numberOf, precedence}
 use Rattle.rules.specs.Sound.{sound}
 use Rattle.rules.specs.Refusals.{newRefusals, setRefusals, bindRefusals, sendLines, byReferenceLines, byLocationLines, used, exportRefusals, indirectRefusals, transferRefusals, dropRefusals, readRefusals, askRefusals, deliverRefusals, boundRefusals}
-use Rattle.rules.specs.Order.{inOrderFrom, inOrder}
+use Rattle.rules.specs.Order.{inOrderFrom, inOrder, Applies, first, later, LowestGiven}
+
+-- what applies in a list in order stands no lower than where the list begins
+at-least : (n : ℕ) (l : List Check) → inOrderFrom n l ≡ true → (why : Refusal) → Applies why l → n ≤ precedence why
+unfolding inOrderFrom
+at-least n ((w when b) ∷ l) h why (first r) = leb-true n (precedence w) (and-l (leb n (precedence w)) (inOrderFrom (precedence w) l) h)
+at-least n ((w when b) ∷ l) h why (later c r a) =
+    let here = leb-true n (precedence w) (and-l (leb n (precedence w)) (inOrderFrom (precedence w) l) h) in
+    omega (arith, at-least (precedence w) l (and-r (leb n (precedence w)) (inOrderFrom (precedence w) l) h) why a)
+
+-- the first that applies is the lowest
+pub lowest-given : (n : ℕ) (l : List Check) (d : Effect) → inOrderFrom n l ≡ true → (why : Refusal) → Applies why l → LowestGiven l d why
+unfolding inOrderFrom checked
+lowest-given n ((w when true) ∷ l) d h why (first r) = record { given = w; is = refl; lowest = omega arith }
+lowest-given n ((w when true) ∷ l) d h why (later c r a) =
+    record { given = w; is = refl; lowest = at-least (precedence w) l (and-r (leb n (precedence w)) (inOrderFrom (precedence w) l) h) why a }
+lowest-given n ((w when false) ∷ l) d h why (later c r a) =
+    let x = lowest-given (precedence w) l d (and-r (leb n (precedence w)) (inOrderFrom (precedence w) l) h) why a in
+    record { given = x .given; is = x .is; lowest = x .lowest }
 
 pub by-number : (why : Refusal) → precedence why ≡ 10 * numberOf why
 by-number WorkerCount = refl

@@ -1,4 +1,4 @@
--- No loops: the rank falls with each step before a change, and after it, a new entry getting a rank of its own. Assumes nothing.
+-- No loops: the rank falls with each step before a move, and after it, a new entry getting a rank of its own. Assumes nothing.
 use Prim.Native.Nat.{ℕ, _<_, _≤_}
 use native.Mathlib.Omega.{arith}
 use mathlib.Core.Path.{_≡_, refl, sym, ap, ap₂, subst, _∙_}
@@ -51,14 +51,14 @@ module _ (𝓜 : Machine) (s : Tables) (h : Move) (F : Facts 𝓜 s) (K : Keeps 
   entries-changed : Stored (entry 𝓜 s) (entry 𝓜 (next 𝓜 s h)) (h .o) (h .e) (h .x₀) (h .x)
   entries-changed = entry-stored 𝓜 s h (F .sized) (K .placed)
 
-  -- an entry that is live after the change was live before, or is the one that the change made
+  -- an entry that is live after the move was live before, or is the one that the move made
   pub was-or-new : (a b : ℕ) → isLive (entry 𝓜 (next 𝓜 s h) a b) ≡ true → (isLive (entry 𝓜 s a b) ≡ true) ⊎ ((h .o ≡ a) × (h .e ≡ b) × (isLive (h .x₀) ≡ false))
   was-or-new =
       stored-each entries-changed (λ a b x y. isLive y ≡ true → (isLive x ≡ true) ⊎ ((h .o ≡ a) × (h .e ≡ b) × (isLive (h .x₀) ≡ false)))
       (λ t. ⊎-elim inl (λ l. inr (refl, refl, l)) (or-else (isLive (h .x₀))))
       (λ a b f t. inl t)
 
-  -- a step after the change from an entry that was there before
+  -- a step after the move from an entry that was there before
   old-step : (a b o e : ℕ) → isLive (entry 𝓜 s a b) ≡ true → follow 𝓜 (next 𝓜 s h) (At a b) ≡ At o e → (isLive (entry 𝓜 s o e) ≡ true) × (r o e < r a b)
   old-step a b o e t q =
       let l = the-live (entry 𝓜 s a b) t in
@@ -79,7 +79,7 @@ module _ (𝓜 : Machine) (s : Tables) (h : Move) (F : Facts 𝓜 s) (K : Keeps 
           let alive = named-place 𝓜 s F a y o e named in
           (alive, omega (arith, R .own o e alive (z .1), R .low a b t, z .0))
 
-  -- a rank that agrees on the entries that were there, and is right for the one that the change made
+  -- a rank that agrees on the entries that were there, and is right for the one that the move made
   pub ranked-by : (r′ : ℕ → ℕ → ℕ) → ((a b : ℕ) → isLive (entry 𝓜 s a b) ≡ true → r′ a b ≡ r a b)
       → (isLive (h .x₀) ≡ false → isLive (h .x) ≡ true → (h .o ≤ r′ (h .o) (h .e)) × (isTainted (h .x) ≡ false → r′ (h .o) (h .e) ≡ h .o) × ((o e : ℕ) → isLive (entry 𝓜 s o e) ≡ true → follow 𝓜 (next 𝓜 s h) (At (h .o) (h .e)) ≡ At o e → r o e < r′ (h .o) (h .e)))
       → Ranked 𝓜 (next 𝓜 s h) r′

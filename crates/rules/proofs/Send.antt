@@ -72,6 +72,7 @@ module _ (𝓜 : Machine) (L : Laws 𝓜) (s : Tables) (F : Facts 𝓜 s) where
         message-ok = (l .to-used, L .first-some);
         entry-kept = kept;
         entry-new = new;
+        reference-kept = λ v y. tt;
         reads = λ v d. refl;
         asks = λ v d. refl;
         weights = λ a b. omega (arith, cond-add (eqb w a && eqb e b) (entryWeight x₀) (𝓜 .firstWeight) (entryWeight y) more);
@@ -136,6 +137,7 @@ module _ (𝓜 : Machine) (L : Laws 𝓜) (s : Tables) (F : Facts 𝓜 s) where
         old-cell = y .is;
         old-message = slot .1;
         some = omega arith;
+        reference-kept = tt;
         message-ok = (u, L .split-some n more);
         reads = λ v d. refl;
         asks = λ v d. refl;
@@ -246,6 +248,7 @@ module _ (𝓜 : Machine) (L : Laws 𝓜) (s : Tables) (F : Facts 𝓜 s) where
         old-cell = q;
         old-message = slot .1;
         some = weight-some 𝓜 L s F w x o e n Idle a q;
+        reference-kept = tt;
         message-ok = tt;
         reads = λ v d. mark-on (eqb w v && eqb x d);
         asks = λ v d. refl;
@@ -285,6 +288,7 @@ module _ (𝓜 : Machine) (L : Laws 𝓜) (s : Tables) (F : Facts 𝓜 s) where
         old-cell = q;
         old-message = slot .1;
         some = weight-some 𝓜 L s F w x o e n st false q;
+        reference-kept = tt;
         message-ok = ap (exNames o e) (here-named w x o e n n st st false true k (Ask w x o e) (slot .0) (slot .1) q) ∙ eq-both o e;
         reads = λ v d. refl;
         asks = λ v d. mark-on (eqb w v && eqb x d);

@@ -1,4 +1,4 @@
--- All that holds of a reached state stays under a change that keeps and brings what it must. Assumes nothing.
+-- All that holds of a reached state stays under a move that keeps and brings what it must. Assumes nothing.
 use Prim.Native.Nat.{ℕ, suc, _+_, _<_, _≤_}
 use native.Mathlib.Omega.{arith}
 use mathlib.Core.Path.{_≡_, refl, sym, ap, ap₂, _∙_}
@@ -95,7 +95,7 @@ pub invariant-made : (𝓜 : Machine) (s t : Tables) → Invariant 𝓜 s → Ma
 invariant-made 𝓜 s t I (nothing) = I
 invariant-made 𝓜 s t I (moved h K on C) = invariant-kept 𝓜 s h I K on (C (I .known))
 
--- where the change makes no entry, the rank itself stays
+-- where the move makes no entry, the rank itself stays
 pub rank-kept : (𝓜 : Machine) (s : Tables) (h : Move) (F : Facts 𝓜 s) (K : Keeps 𝓜 s h) (r : ℕ → ℕ → ℕ) → Ranked 𝓜 s r
     → (isLive (h .x) ≡ true → isLive (h .x₀) ≡ true) → Ranked 𝓜 (next 𝓜 s h) r
 rank-kept 𝓜 s h F K r R old = ranked-by 𝓜 s h F K r R r (λ a b l. refl) (λ dead live. absurd-bool (old live) dead)

@@ -1,5 +1,5 @@
--- What the proofs of single calls share: the refusals that a call has passed, what a search found, room for what is sent, and the rules' own
--- stores as moves. Assumes nothing.
+-- What the proofs of single calls share: the refusals that a call has passed, what a search found, room for what is sent, and a store
+-- that a call makes. Assumes nothing.
 use Prim.Native.Nat.{ℕ, _+_, _<_, _≤_}
 use native.Mathlib.Omega.{arith}
 use mathlib.Core.Path.{_≡_, refl, ap, subst}

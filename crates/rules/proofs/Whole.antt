@@ -46,7 +46,7 @@ use Rattle.rules.proofs.Count.{standing-live, comes-to-end}
 use Rattle.rules.proofs.Measure.{measure, measure-bound, StatusOn, KindOn, ExOn, Arrived, arrived}
 use Rattle.rules.proofs.Stays.{facts-made, invariant-made}
 use Rattle.rules.proofs.Ends.{own-context}
-use Rattle.rules.proofs.Context.{message-live, context-made}
+use Rattle.rules.proofs.Context.{message-live, context-made, naming-made}
 use Rattle.rules.proofs.Steps.{makes-checked}
 use Rattle.rules.proofs.Local.{new-makes, set-makes, bind-makes, transfer-makes, drop-makes}
 use Rattle.rules.proofs.Send.{export-makes, indirect-makes, read-makes, ask-makes}
@@ -357,8 +357,11 @@ module _ (𝓜 : Machine) (L : Laws 𝓜) where
         only-unbound-reads = λ s r ks rest k. unbound-left (drained 𝓜 s ks) (message (drained 𝓜 s ks) k) (rest k);
         rest-is-reached = rest-is-reached;
         brought = brought;
+        known-is-true = λ s r w c o e n v a q. subst (KnownFact 𝓜 s) q (reached-invariant s r .known .exes w c);
         refers-to-live =
             λ s r o e. let I = reached-invariant s r in (λ w c. names-live 𝓜 s (I .facts) w c o e, λ k. message-live 𝓜 s (I .facts) (I .reads) k o e);
+        reference-keeps-naming =
+            λ s r q n. let I = reached-invariant s r in naming-made 𝓜 s (step 𝓜 s q .after) (I .facts) (step-makes s (I .facts) (I .reads) q n);
         reference-keeps-context =
             λ s r q n. let I = reached-invariant s r in context-made 𝓜 s (step 𝓜 s q .after) (I .facts) (step-makes s (I .facts) (I .reads) q n);
       }

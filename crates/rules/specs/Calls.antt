@@ -111,6 +111,7 @@ abbrev pub askEx : ℕ → ℕ → ℕ → ℕ → ℕ → ℕ → Status → Bo
 askEx w x slot o e n st true = answered Waiting
 askEx w x slot o e n st false = sent slot (OfCellAndSlot w x (Ex o e n st true) slot (Ask w x o e))
 
+-- at the end x, an EX; any other is refused before
 abbrev pub askAt : ℕ → ℕ → Kind → ℕ → Effect
 askAt w x k slot = onEx (answered Waiting) (askEx w x slot) k
 

@@ -1,5 +1,5 @@
--- Document 01's numbered cases K1 to K10 as one table, and the whole run printed in its "text program", as calls with their codes and
--- values. A case begins from a state, and each row is a call with its answer or a look at what then stands in the tables. Assumes nothing.
+-- Document 01's numbered cases K1 to K10 as one table, the wrong turnings that they leave open as another, and the whole run printed in its
+-- "text program", as calls with their codes and values. A case begins from a state, and each row is a call with its answer or a look at what then stands in the tables. Assumes nothing.
 use Prim.Native.Nat.{ℕ}
 use mathlib.Core.Bool.{Bool, true, false, _&&_}
 use mathlib.Core.List.{List, [], _∷_, _++_}
@@ -42,7 +42,7 @@ pub data Row : Type 0 where
   cellWeighs : ℕ → ℕ → ℕ → Row
   slotWeighs : ℕ → ℕ → Row
   supplyWeighs : ℕ → ℕ → Row
-  entryWeighs : ℕ → ℕ → ℕ → Row
+  liveWeighs : ℕ → ℕ → ℕ → Row
   -- an entry is free
   entryFree : ℕ → ℕ → Row
 
@@ -138,7 +138,7 @@ k9 =
     ∷ gives (Export 0 0 1) 0 0
     ∷ gives (Deliver 0) 0 0
     ∷ gives (Transfer 1 0 0) 0 0
-    ∷ entryWeighs 0 0 1024
+    ∷ liveWeighs 0 0 1024
     ∷ gives (Deliver 0) 0 0
     ∷ entryFree 0 0
     ∷ [])
@@ -154,7 +154,7 @@ k10 =
     (gives (AskWeight 1 0) 0x40 0
     ∷ gives (Deliver 0) 0 0
     ∷ supplyWeighs 0 0
-    ∷ entryWeighs 0 0 1048576
+    ∷ liveWeighs 0 0 1048576
     ∷ gives (Deliver 0) 0 0
     ∷ cellWeighs 1 0 1048576
     ∷ [])
@@ -198,7 +198,7 @@ knownKeepsWeight =
     ∷ gives (Deliver 0) 0 0
     ∷ gives (ReadCell 1 0) 0 7
     ∷ cellWeighs 1 0 1024
-    ∷ entryWeighs 0 0 1024
+    ∷ liveWeighs 0 0 1024
     ∷ [])
 
 -- "returns the closed state": after a refused start no worker is there.
@@ -234,7 +234,7 @@ abbrev pub ceilingReached : Case
 ceilingReached =
     case belowCeiling
     (gives (Export 0 0 1) 0 0
-    ∷ entryWeighs 0 0 1048576
+    ∷ liveWeighs 0 0 1048576
     ∷ gives (Export 0 0 1) 10 0
     ∷ [])
 
@@ -269,7 +269,7 @@ keptByAReference =
     ∷ gives (Export 0 0 1) 0 0
     ∷ gives (Drop 1 0) 0 1
     ∷ gives (Deliver 1) 0 0
-    ∷ entryWeighs 0 0 1024
+    ∷ liveWeighs 0 0 1024
     ∷ [])
 
 abbrev pub wrongTurnings : List Case
@@ -307,7 +307,7 @@ holdsFrom s ((cellWeighs w c n) ∷ rows) = eqb (exWeight (cell eight s w c)) n 
 holdsFrom s ((slotWeighs k n) ∷ rows) = eqb (messageWeight (message s k)) n && holdsFrom s rows
 holdsFrom s ((supplyWeighs k n) ∷ rows) =
     isSupply (message s k) && eqb (messageWeight (message s k)) n && holdsFrom s rows
-holdsFrom s ((entryWeighs w e n) ∷ rows) = eqb (entryWeight (entry eight s w e)) n && holdsFrom s rows
+holdsFrom s ((liveWeighs w e n) ∷ rows) = eqb (entryWeight (entry eight s w e)) n && holdsFrom s rows
 holdsFrom s ((entryFree w e) ∷ rows) = isUnused (entry eight s w e) && holdsFrom s rows
 
 unfoldable pub hold : List Case → Bool

@@ -95,6 +95,7 @@ module _ (𝓜 : Machine) (s : Tables) where
       let w = min (𝓜 .firstWeight) (𝓜 .ceiling - entryWeight x) in
       done 0 (OfEntryAndSlot o e (grown w x) k (Supply a c w))
 
+  -- each message; an empty slot is refused before
   unfoldable pub deliverMessage : ℕ → Message → Effect
   deliverMessage k Empty = answered (Done 0)
   deliverMessage k (Reference to o e w) = cond (eqb to o) (deliverHome k o e w) (deliverAway k to o e w)

@@ -1,5 +1,5 @@
--- One change of the tables: a cell, an entry and a slot, each perhaps as it was. Every call that is done makes one such change, and what a
--- change must keep for the facts of a sound state to stay is said here once. Assumes nothing.
+-- A move: a cell, an entry and a slot, each perhaps as it was, with what stood there. Every call that is done makes one, and what a move must
+-- keep for the facts of a sound state to stay is said here once. Assumes nothing.
 use Prim.Native.Nat.{ℕ, _+_, _*_, _<_, _≤_}
 use mathlib.Core.Path.{_≡_}
 use mathlib.Core.Bool.{true, false, _&&_, _||_, cond}
@@ -12,9 +12,10 @@ use Rattle.tables.specs.declared.Kind.{Kind}
 use Rattle.tables.specs.declared.Kind.the-variants.{Ref, Ex}
 use Rattle.tables.specs.declared.Holding.{Holding}
 use Rattle.tables.specs.declared.Message.{Message}
+use Rattle.tables.specs.declared.Message.the-variants.{Empty, Reference, Release, Read, Answer, Ask, Supply}
 use Rattle.tables.specs.declared.Place.the-variants.{At}
 use Rattle.tables.specs.Machine.{Machine, Tables, withCells, withEntries, withSlots}
-use Rattle.tables.specs.Parts.{onEx, isFree, isVar, isVal, isReading, isAsking, exNames, isLive, isTainted, entryNames, entryWeight, goesTo, cellOf}
+use Rattle.tables.specs.Parts.{onEx, isFree, isVar, isVal, isEx, isReading, isAsking, exNames, isLive, isTainted, entryNames, entryWeight, goesTo, cellOf}
 use Rattle.tables.specs.Look.{cell, entry, safe, exported, busy, booked, freeCells, message}
 use Rattle.rules.specs.Chains.{follow}
 use Rattle.rules.specs.Sound.{readsFor, asksFor, cellHolds, messageHolds}
@@ -44,7 +45,7 @@ next 𝓜 s h =
 abbrev pub shown : Kind → Kind
 shown k = onEx k (λ o e n st a. Ex o e 0 Idle false) k
 
--- the change is of parts of the tables, and of what stands there
+-- the move is of parts of the tables, and of what stands there
 pub record Placed (𝓜 : Machine) (s : Tables) (h : Move) : Type 0 where
   pub w-in : h .w < 𝓜 .workers
   pub c-in : h .c < 𝓜 .cells
@@ -60,6 +61,16 @@ pub data VarBecomes (𝓜 : Machine) (s : Tables) (w : ℕ) (k : Kind) : Type 0 
   stays : (isVar k || isVal k) ≡ true → VarBecomes 𝓜 s w k
   bound : (d : ℕ) → k ≡ Ref d → safe 𝓜 s w (cell 𝓜 s w d) ≡ true → VarBecomes 𝓜 s w k
 
+-- a Reference that leaves its slot goes home, or into an EX k of that entry at the worker w that it goes to
+abbrev pub ReferenceGoes : ℕ → Kind → Message → Type 0
+ReferenceGoes w k Empty = Unit {0}
+ReferenceGoes w k (Reference to o e n) = (to ≡ o) ⊎ ((w ≡ to) × (exNames o e k ≡ true))
+ReferenceGoes w k (Release o e n) = Unit {0}
+ReferenceGoes w k (Read r c o e) = Unit {0}
+ReferenceGoes w k (Answer r c n) = Unit {0}
+ReferenceGoes w k (Ask a c o e) = Unit {0}
+ReferenceGoes w k (Supply a c n) = Unit {0}
+
 pub record Keeps (𝓜 : Machine) (s : Tables) (h : Move) : Type 0 where
   pub placed : Placed 𝓜 s h
   -- the new parts are as they should be
@@ -69,6 +80,9 @@ pub record Keeps (𝓜 : Machine) (s : Tables) (h : Move) : Type 0 where
   -- a busy cell stays what others see of it, but for an exported VAR
   pub busy-kept : busy 𝓜 s (h .w) (h .c) ≡ true → isVar (h .k₀) ≡ false → shown (h .k) ≡ shown (h .k₀)
   pub var-kept : exported 𝓜 s (h .w) (h .c) ≡ true → isVar (h .k₀) ≡ true → VarBecomes 𝓜 s (h .w) (h .k)
+  -- an EX that stays one names the entry that it named
+  pub ex-kept : (a b : ℕ) → exNames a b (h .k₀) ≡ true → isEx (h .k) ≡ true → exNames a b (h .k) ≡ true
+  pub reference-kept : (h .m ≡ h .m₀) ⊎ ReferenceGoes (h .w) (h .k) (h .m₀)
   -- a live entry that stays live keeps its cell and its taint
   pub entry-kept : isLive (h .x₀) ≡ true → isLive (h .x) ≡ true → (cellOf (h .x) ≡ cellOf (h .x₀)) × (isTainted (h .x) ≡ isTainted (h .x₀))
   -- no second EX of an entry, no second entry of a cell

@@ -62,8 +62,8 @@ abbrev pub notEx : Kind → Check
 notEx k = WrongKind when not (isEx k)
 
 -- 7: "busy"
-abbrev pub isBusy : Bool → Check
-isBusy is-busy = Busy when is-busy
+abbrev pub busyCell : Bool → Check
+busyCell is-busy = Busy when is-busy
 
 -- 8: "c has a live entry and the EX is unsafe"
 abbrev pub unsafeBind : Bool → Bool → Check
@@ -139,10 +139,10 @@ abbrev pub indirectLines : Machine → Bool → ℕ → ℕ → ℕ → Kind →
 indirectLines 𝓜 is-sound p w to k x u r = (sendLines is-sound p w to k ++ notEx x ∷ []) ++ byLocationLines 𝓜 u r
 
 abbrev pub transferLines : Machine → Bool → ℕ → ℕ → ℕ → Kind → Bool → Room → List Check
-transferLines 𝓜 is-sound p w to k is-busy r = (sendLines is-sound p w to k ++ notEx k ∷ []) ++ isBusy is-busy ∷ roomLines 𝓜 r
+transferLines 𝓜 is-sound p w to k is-busy r = (sendLines is-sound p w to k ++ notEx k ∷ []) ++ busyCell is-busy ∷ roomLines 𝓜 r
 
 abbrev pub dropLines : Machine → Bool → ℕ → ℕ → Kind → Bool → ℕ → List Check
-dropLines 𝓜 is-sound p w k is-busy slot = cellLines is-sound p w k ++ isBusy is-busy ∷ noSlotIf 𝓜 (isEx k) slot ∷ []
+dropLines 𝓜 is-sound p w k is-busy slot = cellLines is-sound p w k ++ busyCell is-busy ∷ noSlotIf 𝓜 (isEx k) slot ∷ []
 
 -- x is the end of the cell
 abbrev pub readLines : Machine → Bool → ℕ → ℕ → Kind → Kind → ℕ → List Check

@@ -1,5 +1,5 @@
--- Demand 3, sentence by sentence, and what the whole is for, as statements about the rules of a machine. Nothing else is on this page; the
--- proofs are in proofs/. The order's own words stand in quotation marks.
+-- Demand 3, sentence by sentence, that every sound state stays sound, and what the whole is for, as statements about the rules of a machine.
+-- Nothing else is on this page; the proofs are in proofs/. The order's own words stand in quotation marks.
 --
 -- "Take any sequence of calls, refused ones included, from an accepted start and with no second start in it" is `Reached` of the rules: every
 -- accepted start, every call that is no start, with any numbers. "Then let only deliveries follow, in any order" is a list of slot numbers,
@@ -17,7 +17,7 @@ use Rattle.tables.specs.declared.Message.the-variants.{Empty, Reference, Releas
 use Rattle.tables.specs.declared.Place.the-variants.{At}
 use Rattle.tables.specs.declared.Call.{Call}
 use Rattle.tables.specs.Machine.{Machine, Tables}
-use Rattle.tables.specs.Parts.{isFree, isVar, exNames, isLive, isTainted, entryNames, cellOf, entryWeight, isEmpty}
+use Rattle.tables.specs.Parts.{isFree, isVar, isEx, exNames, isLive, isTainted, entryNames, cellOf, entryWeight, isEmpty}
 use Rattle.tables.specs.Look.{cell, entry, liveEntries, message}
 use Rattle.rules.specs.Answers.{succeeds}
 use Rattle.rules.specs.Sound.{held, sound}
@@ -82,9 +82,23 @@ module _ (𝓜 : Machine) where
   ReadySucceeds =
       (s : Tables) → Reached 𝓜 s → (ks : List ℕ) (k : ℕ) → delivers 𝓜 (drained 𝓜 s ks) k ≡ holdsReady (drained 𝓜 s ks) k
 
-  -- "when none is ready, only reads of unbound variables remain": every message is then a Read, and the end of its entry's cell a VAR
+  -- at rest no message is ready
   abbrev pub AtRest : Tables → Type 0
   AtRest s = (k : ℕ) → holdsReady s k ≡ false
+
+  -- "when none is ready, only reads of unbound variables remain": every message is then a Read, and the end of its entry's cell a VAR
+  abbrev pub readOfUnbound : Tables → Message → Bool
+  readOfUnbound s Empty = true
+  readOfUnbound s (Reference to o e n) = false
+  readOfUnbound s (Release o e n) = false
+  readOfUnbound s (Read r c o e) = isVar (entryEnd 𝓜 s o (entry 𝓜 s o e))
+  readOfUnbound s (Answer r c v) = false
+  readOfUnbound s (Ask a c o e) = false
+  readOfUnbound s (Supply a c n) = false
+
+  abbrev pub OnlyUnboundReads : Type 0
+  OnlyUnboundReads =
+      (s : Tables) → Reached 𝓜 s → (ks : List ℕ) → AtRest (drained 𝓜 s ks) → (k : ℕ) → readOfUnbound (drained 𝓜 s ks) (message (drained 𝓜 s ks) k) ≡ true
 
   -- And rest comes, whichever ready message is taken each time: where the slots of a sequence are delivered one after the other, and each
   -- holds a ready message so long as any is ready, none is ready after at most B of them.
@@ -100,19 +114,6 @@ module _ (𝓜 : Machine) where
   RestIsReached =
       (s : Tables) → Reached 𝓜 s → (slot : ℕ → ℕ) → TakesReady s slot → (n : ℕ) × (n ≤ B 𝓜 s) × AtRest (drained 𝓜 s (slotsTaken slot n))
 
-  abbrev pub readOfUnbound : Tables → Message → Bool
-  readOfUnbound s Empty = true
-  readOfUnbound s (Reference to o e n) = false
-  readOfUnbound s (Release o e n) = false
-  readOfUnbound s (Read r c o e) = isVar (entryEnd 𝓜 s o (entry 𝓜 s o e))
-  readOfUnbound s (Answer r c v) = false
-  readOfUnbound s (Ask a c o e) = false
-  readOfUnbound s (Supply a c n) = false
-
-  abbrev pub OnlyUnboundReads : Type 0
-  OnlyUnboundReads =
-      (s : Tables) → Reached 𝓜 s → (ks : List ℕ) → AtRest (drained 𝓜 s ks) → (k : ℕ) → readOfUnbound (drained 𝓜 s ks) (message (drained 𝓜 s ks) k) ≡ true
-
   -- "and every read that was pending on a chain ending in a value has brought that value": an EX that is reading in s, whose chain ends in
   -- VAL(v), is known with v in every state at rest that deliveries alone lead to, whether its message was a Read anywhere on the chain or
   -- already an Answer
@@ -126,6 +127,11 @@ module _ (𝓜 : Machine) where
       (s : Tables) → Reached 𝓜 s → (w c o e n v : ℕ) (a : Bool) → cell 𝓜 s w c ≡ Ex o e n Reading a → EndsIn 𝓜 s (At o e) v → (ks : List ℕ)
       → AtRest (drained 𝓜 s ks) → KnownWith (drained 𝓜 s ks) w c o e v
 
+  -- What is known is true: an EX that is known with v has a chain that ends in VAL(v).
+  abbrev pub KnownIsTrue : Type 0
+  KnownIsTrue =
+      (s : Tables) → Reached 𝓜 s → (w c o e n v : ℕ) (a : Bool) → cell 𝓜 s w c ≡ Ex o e n (Known v) a → EndsIn 𝓜 s (At o e) v
+
   -- ---- Every sound state, reached or made by hand, loops included: whatever the call and its numbers, the next state is sound.
   abbrev pub CallsKeepSound : Type 0
   CallsKeepSound = (s : Tables) → Sized 𝓜 s → sound 𝓜 s ≡ true → (q : Call) → sound 𝓜 (step 𝓜 s q .after) ≡ true
@@ -138,8 +144,21 @@ module _ (𝓜 : Machine) where
       (s : Tables) → Reached 𝓜 s → (o e : ℕ)
       → ((w c : ℕ) → exNames o e (cell 𝓜 s w c) ≡ true → isLive (entry 𝓜 s o e) ≡ true) × ((k : ℕ) → messageNames o e (message s k) ≡ true → isLive (entry 𝓜 s o e) ≡ true)
 
-  -- and by `NoLoops` that entry leads to a context. From one state to the next the context is what it was, or a variable that has been given
-  -- a value, or bound.
+  -- and goes on to: an EX that stays one names the entry that it named, and a Reference that leaves its slot has gone home to its owner, or
+  -- is in an EX of that entry at the worker that it went to.
+  pub data Gone (s : Tables) (to o e : ℕ) : Type 0 where
+    home : to ≡ o → Gone s to o e
+    away : (c : ℕ) → exNames o e (cell 𝓜 s to c) ≡ true → Gone s to o e
+
+  pub record KeepsNaming (s s′ : Tables) : Type 0 where
+    pub same-entry : (w c o e : ℕ) → exNames o e (cell 𝓜 s w c) ≡ true → isEx (cell 𝓜 s′ w c) ≡ true → exNames o e (cell 𝓜 s′ w c) ≡ true
+    pub same-reference : (k to o e n : ℕ) → message s k ≡ Reference to o e n → (message s′ k ≡ message s k) ⊎ Gone s′ to o e
+
+  abbrev pub ReferenceKeepsNaming : Type 0
+  ReferenceKeepsNaming = (s : Tables) → Reached 𝓜 s → (q : Call) → isStart q ≡ false → KeepsNaming s (step 𝓜 s q .after)
+
+  -- By `NoLoops` that entry leads to a context. From one state to the next the context is what it was, or a variable that has been given a
+  -- value, or bound; by which call, and to what, the rules say.
   pub data Continues (s s′ : Tables) (w c : ℕ) : Type 0 where
     as-it-was : cell 𝓜 s′ w c ≡ cell 𝓜 s w c → Continues s s′ w c
     given-a-value : (v : ℕ) → cell 𝓜 s w c ≡ Var → cell 𝓜 s′ w c ≡ Val v → Continues s s′ w c
@@ -174,5 +193,7 @@ module _ (𝓜 : Machine) where
     pub only-unbound-reads : OnlyUnboundReads
     pub rest-is-reached : RestIsReached
     pub brought : Brought
+    pub known-is-true : KnownIsTrue
     pub refers-to-live : RefersToLive
+    pub reference-keeps-naming : ReferenceKeepsNaming
     pub reference-keeps-context : ReferenceKeepsContext

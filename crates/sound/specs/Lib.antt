@@ -1,2 +1,2 @@
--- A chain of points, tested one after another.
-pub mod Chain
+-- Points tested one after another.
+pub mod InTurn

@@ -1,5 +1,5 @@
 -- What is looked up in the tables, and the tables with one part changed. Total at every number: out of range reads free, and a store
--- there changes nothing. Assumes nothing.
+-- there changes nothing; a slot is in range where the list has it. Assumes nothing.
 use Prim.Native.Nat.{ℕ, _+_, _*_}
 use mathlib.Core.Bool.{Bool, false, _&&_, _||_, not, cond}
 use mathlib.Core.List.{List}

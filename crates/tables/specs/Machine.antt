@@ -24,7 +24,7 @@ pub record Tables : Type 0 where
   pub entries : List Entry
   pub slots : List Slot
 
--- The tables with another list of cells, of entries, of slots. Records of tables are built here alone, at the state's view and at the start.
+-- The tables with another list of cells, of entries, of slots. Records of tables are built here, at the state's view, at the start and in a case made by hand.
 abbrev pub withCells : Tables → List Cell → Tables
 withCells s l = record { p = s .p; cells = l; entries = s .entries; slots = s .slots }
 

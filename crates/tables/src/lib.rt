@@ -20,7 +20,7 @@ pub const ALL_ENTRIES: usize = 128;
 
 pub const ALL_SLOTS: usize = 64;
 
-// The weight of a first reference, and the ceiling of an entry's weight.
+// The weight of a Reference by location, and the most that a Supply brings; and the ceiling of an entry's weight.
 pub const FIRST_WEIGHT: u32 = 1024;
 
 pub const CEILING: u32 = 1048576;

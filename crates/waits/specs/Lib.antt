@@ -1,2 +1,2 @@
--- Point 4 by a table of steps and by what a loop has read.
+-- Point 4 by a table of hops and by what a loop has read.
 pub mod Waits

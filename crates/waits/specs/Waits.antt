@@ -20,8 +20,8 @@ use Rattle.tables.specs.Look.{messageAt, cell}
 use Rattle.lookups.specs.Laws.{count-total}
 use Rattle.rules.specs.Sound.{readsFor, asksFor, readsOf, asksOf, cellAwaited, messageHasIts}
 use Rattle.places.specs.Places.{waiterOf, cellFor, entryThere}
-use Rattle.chains.specs.declared.Step.{Step}
-use Rattle.chains.specs.Steps.{stepBy, Followed, reached-by}
+use Rattle.chains.specs.declared.Hop.{Hop}
+use Rattle.chains.specs.Hops.{stepBy, Followed, reached-by}
 
 -- the entry that a message names
 abbrev pub namedEntry : Message → Place
@@ -34,7 +34,7 @@ namedEntry (Ask a c o e) = At o e
 namedEntry (Supply a c n) = Nowhere
 
 -- a message has its EX, whose cell holds k, and names what it may, an entry that holds x
-abbrev pub messageSeen : Machine → List Step → Kind → Holding → Message → Bool
+abbrev pub messageSeen : Machine → List Hop → Kind → Holding → Message → Bool
 messageSeen 𝓜 l k x Empty = true
 messageSeen 𝓜 l k x (Reference to o e n) = isLive x && leb 1 n
 messageSeen 𝓜 l k x (Release o e n) = isLive x && leb 1 n
@@ -50,7 +50,7 @@ unmarked false true x y h = absurd-bool h refl
 unmarked false false x y h = refl
 
 module _ (𝓜 : Machine) (s : Tables) where
-  message-has : {l : List Step} → Followed 𝓜 s l (𝓜 .workers * 𝓜 .entries) → {r : Bool} (m : Message)
+  message-has : {l : List Hop} → Followed 𝓜 s l (𝓜 .workers * 𝓜 .entries) → {r : Bool} (m : Message)
       → r ≡ messageSeen 𝓜 l (cell 𝓜 s (waiterOf m) (cellFor m)) (entryThere 𝓜 s (namedEntry m)) m → r ≡ messageHasIts 𝓜 s m
   unfolding entryThere
   message-has f Empty h = h
@@ -62,7 +62,7 @@ module _ (𝓜 : Machine) (s : Tables) where
   message-has f (Supply a c n) h = h
 
   -- step by step as the code reads
-  pub message-has-by : {l : List Step} → Followed 𝓜 s l (𝓜 .workers * 𝓜 .entries) → {w c : ℕ} {k : Kind} {at : Place} {x : Holding} {r : Bool} (m : Message)
+  pub message-has-by : {l : List Hop} → Followed 𝓜 s l (𝓜 .workers * 𝓜 .entries) → {w c : ℕ} {k : Kind} {at : Place} {x : Holding} {r : Bool} (m : Message)
       → w ≡ waiterOf m → c ≡ cellFor m → k ≡ cell 𝓜 s w c → at ≡ namedEntry m → x ≡ entryThere 𝓜 s at
       → r ≡ messageSeen 𝓜 l k x m → r ≡ messageHasIts 𝓜 s m
   message-has-by f m w c k at x h = message-has f m (rw (x, at, k, w, c) at h)

@@ -3,7 +3,7 @@ ghost use mathlib.Core.Path.{_≡_};
 ghost use Rattle.tables.specs.Machine.{eight, tables};
 ghost use Rattle.rules.specs.Sound.{readsFor, asksFor, eachCell, eachMessage, cellAwaited, messageHasIts, point4};
 ghost use Rattle.waits.specs.Waits.{namedEntry, messageSeen};
-use chains::Steps;
+use chains::Hops;
 use numbers::bit_of;
 use numbers::both;
 use numbers::either;
@@ -107,8 +107,8 @@ fn named_entry(m: Message) -> Place
 }
 
 // The message m has its EX, whose cell holds k, and names what it may: an entry that holds x.
-fn message_has_its(t: Steps, m: Message, k: Kind, x: Holding) -> bool
-    ensures { λ r. ⌜ r ≡ messageSeen eight (t .steps) k x m ⌝ }
+fn message_has_its(t: Hops, m: Message, k: Kind, x: Holding) -> bool
+    ensures { λ r. ⌜ r ≡ messageSeen eight (t .hops) k x m ⌝ }
 {
     let live = parts::is_live(x);
     match m {
@@ -134,7 +134,7 @@ fn message_has_its(t: Steps, m: Message, k: Kind, x: Holding) -> bool
 fn messages_have_theirs(s: State) -> bool
     ensures { λ r. ⌜ r ≡ eachMessage eight (tables s) (messageHasIts eight (tables s)) ⌝ }
 {
-    let t = chains::steps_of(s);
+    let t = chains::hops_of(s);
     let mut good = true;
     for i in 0..ALL_SLOTS {
         let x = s.slots[i];

@@ -1,6 +1,6 @@
 -- `chains::next_at` meets its contract: the two guards. Assumes nothing.
 use borrow.Author.Tests.{lt-ltb, le-ltb}
-use Rattle.chains.specs.Steps.{nextSeen}
+use Rattle.chains.specs.Hops.{nextSeen}
 use Rattle.chains.proofs.next_at.Statement.{statement}
 use Rattle.chains.proofs.next_at.Tie as tie
 

@@ -1,6 +1,6 @@
 -- `chains::next_seen` meets its contract: by cases. Assumes nothing.
 use borrow.Author.Needs.{needs}
-use Rattle.chains.specs.Steps.{nextSeen}
+use Rattle.chains.specs.Hops.{nextSeen}
 use Rattle.chains.proofs.next_seen.Statement.{statement}
 use Rattle.chains.proofs.next_seen.Tie as tie
 

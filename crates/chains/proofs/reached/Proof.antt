@@ -1,16 +1,16 @@
--- `chains::reached` meets its contract: a walk by the table of steps. Assumes nothing.
+-- `chains::reached` meets its contract: a walk by the table of hops. Assumes nothing.
 use Prim.Native.Nat.{_-_}
 use borrow.Author.Needs.{needs}
 use Rattle.numbers.specs.Below.{walkMeets}
 use Rattle.tables.specs.Machine.{eight}
 use Rattle.tables.specs.Parts.{isAt}
 use Rattle.loops.specs.Walking.{Walking, walk-start, walk-met, walk-on, walk-end}
-use Rattle.chains.specs.Steps.{stepBy}
+use Rattle.chains.specs.Hops.{stepBy}
 use Rattle.chains.proofs.reached.Statement.{statement}
 use Rattle.chains.proofs.reached.Tie as tie
 
 abbrev Inv-loop : tie.InvT-loop
-Inv-loop o e t at₀ i₀ at i = Walking (isAt o e) (stepBy eight (t .steps)) 128 i at (walkMeets (isAt o e) (stepBy eight (t .steps)) 128 at₀)
+Inv-loop o e t at₀ i₀ at i = Walking (isAt o e) (stepBy eight (t .hops)) 128 i at (walkMeets (isAt o e) (stepBy eight (t .hops)) 128 at₀)
 
 abbrev μ-loop : tie.MeasureT-loop
 μ-loop o e t at₀ i₀ at i = 128 - i

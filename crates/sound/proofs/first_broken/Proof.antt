@@ -1,7 +1,7 @@
 -- `sound::first_broken` meets its contract: the points one after another. Assumes nothing.
 use mathlib.Core.Path.{refl}
 use Rattle.rules.specs.Sound.{firstBroken}
-use Rattle.sound.specs.Chain.{broken, kept}
+use Rattle.sound.specs.InTurn.{broken, kept}
 use Rattle.sound.proofs.first_broken.Statement.{statement}
 use Rattle.sound.proofs.first_broken.Tie as tie
 

@@ -1,6 +1,6 @@
 -- `sound::is_sound` meets its contract: no point is broken. Assumes nothing.
 use Rattle.tables.specs.Machine.{eight, tables}
-use Rattle.sound.specs.Chain.{none-broken}
+use Rattle.sound.specs.InTurn.{none-broken}
 use Rattle.sound.proofs.is_sound.Statement.{statement}
 use Rattle.sound.proofs.is_sound.Tie as tie
 

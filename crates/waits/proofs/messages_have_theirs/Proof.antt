@@ -59,7 +59,7 @@ messages-have-theirs-spec =
     let loop = p .before .before .before in
     let s = tables (loop .before .before .args .t1) in
     pass-step (loop .loop .inv) (p .before .before .loop-test .taken)
-    (message-has-by eight s (loop .before .steps-of .ensures) (messageAt (s .slots) (loop .loop .i))
+    (message-has-by eight s (loop .before .hops-of .ensures) (messageAt (s .slots) (loop .loop .i))
     (g .before .before .waiter-of .ensures)
     (g .before .cell-for .ensures)
     (cell-read eight s _ _ (g .cell-index .ensures .0) (d .before .before .cell-seen .ensures))

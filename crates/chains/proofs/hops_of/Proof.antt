@@ -1,4 +1,4 @@
--- `chains::steps_of` meets its contract: each entry passed has its step. Assumes nothing.
+-- `chains::hops_of` meets its contract: each entry passed has its step. Assumes nothing.
 use Prim.Native.Nat.{_+_, _*_, _-_, _/_, _%_, _≤_}
 use native.Mathlib.Omega.{arith}
 use mathlib.Core.Path.{_≡_, refl, ap}
@@ -6,18 +6,18 @@ use borrow.Author.Needs.{needs}
 use Rattle.tables.specs.Machine.{eight, tables}
 use Rattle.tables.specs.Look.{holdingAt}
 use Rattle.places.specs.Places.{cell-read}
-use Rattle.chains.specs.Steps.{Followed, followed-none, followed-more, no-step, step-read}
-use Rattle.chains.proofs.steps_of.Statement.{statement}
-use Rattle.chains.proofs.steps_of.Tie as tie
+use Rattle.chains.specs.Hops.{Followed, followed-none, followed-more, no-step, step-read}
+use Rattle.chains.proofs.hops_of.Statement.{statement}
+use Rattle.chains.proofs.hops_of.Tie as tie
 
 abbrev Inv-loop : tie.InvT-loop
-Inv-loop s t₀ i₀ t i = Followed eight (tables s) (t .steps) i × (i ≤ 128)
+Inv-loop s t₀ i₀ t i = Followed eight (tables s) (t .hops) i × (i ≤ 128)
 
 abbrev μ-loop : tie.MeasureT-loop
 μ-loop s t₀ i₀ t i = 128 - i
 
-pub steps-of-spec : {M : Type 1} → statement M
-steps-of-spec =
+pub hops-of-spec : {M : Type 1} → statement M
+hops-of-spec =
     tie.close
     (tie.spec
     Inv-loop

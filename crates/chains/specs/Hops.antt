@@ -1,4 +1,4 @@
--- A table of the steps along ends and references, one for each entry: a walk by it is the walk of document 01. Assumes nothing.
+-- A table of the hops along ends and references, one for each entry: a walk by it is the walk of document 01. Assumes nothing.
 use Prim.Native.Nat.{ℕ, _+_, _*_, _/_, _%_, _<_}
 use native.Mathlib.Omega.{arith}
 use mathlib.Core.Path.{_≡_, refl, ap, ap₂, _∙_}
@@ -26,9 +26,9 @@ use Rattle.rules.specs.Chains.{through, follow}
 use Rattle.rules.specs.Sound.{reached}
 use Rattle.loops.specs.Walking.{walk-cong}
 use Rattle.places.specs.Places.{placeIndex}
-use Rattle.chains.specs.declared.Step.{Step}
+use Rattle.chains.specs.declared.Hop.{Hop}
 
-abbrev pub nextAt : List Step → ℕ → Place
+abbrev pub nextAt : List Hop → ℕ → Place
 nextAt l i = getD l i (record { next = Nowhere }) .next
 
 module _ (𝓜 : Machine) where
@@ -38,26 +38,26 @@ module _ (𝓜 : Machine) where
   nextSeen (At o e) next = cond (ltb o (𝓜 .workers) && ltb e (𝓜 .entries)) next Nowhere
 
   -- one step by the table
-  abbrev pub stepBy : List Step → Place → Place
+  abbrev pub stepBy : List Hop → Place → Place
   stepBy l p = nextSeen p (nextAt l (placeIndex 𝓜 p))
 
 module _ (𝓜 : Machine) (s : Tables) where
   -- The table has the step of each of the first n entries.
-  pub record Followed (l : List Step) (n : ℕ) : Type 0 where
+  pub record Followed (l : List Hop) (n : ℕ) : Type 0 where
     pub size : length l ≡ 𝓜 .workers * 𝓜 .entries
     pub at : (j : ℕ) → j < n → nextAt l j ≡ follow 𝓜 s (At (j / 𝓜 .entries) (j % 𝓜 .entries))
 
-  pub followed-none : (l : List Step) → length l ≡ 𝓜 .workers * 𝓜 .entries → Followed l 0
+  pub followed-none : (l : List Hop) → length l ≡ 𝓜 .workers * 𝓜 .entries → Followed l 0
   followed-none l h = record { size = h; at = λ j k. absurd (omega arith) }
 
-  pub followed-more : {l : List Step} {n : ℕ} {p : Place} → Followed l n → n < 𝓜 .workers * 𝓜 .entries
+  pub followed-more : {l : List Hop} {n : ℕ} {p : Place} → Followed l n → n < 𝓜 .workers * 𝓜 .entries
       → p ≡ follow 𝓜 s (At (n / 𝓜 .entries) (n % 𝓜 .entries)) → Followed (set l n (record { next = p })) (n + 1)
   followed-more {l} {n} {p} f h e =
       record {
         size = simp length-set (f .size);
         at = λ j k. ⊎-elim
-            (λ (a : j < n). ap (λ (x : Step). x .next) (getD-set-other l n j (record { next = p }) (record { next = Nowhere }) (λ q. omega arith)) ∙ f .at j a)
-            (λ (a : j ≡ n). rw a (ap (λ (x : Step). x .next) (getD-set-same l n (record { next = p }) (record { next = Nowhere }) (let m = f .size in omega arith)) ∙ e))
+            (λ (a : j < n). ap (λ (x : Hop). x .next) (getD-set-other l n j (record { next = p }) (record { next = Nowhere }) (λ q. omega arith)) ∙ f .at j a)
+            (λ (a : j ≡ n). rw a (ap (λ (x : Hop). x .next) (getD-set-same l n (record { next = p }) (record { next = Nowhere }) (let m = f .size in omega arith)) ∙ e))
             (below-cases j n (omega arith));
       }
 
@@ -93,7 +93,7 @@ module _ (𝓜 : Machine) (s : Tables) where
   entry-out o e h = rw h
 
   -- a step by the whole table is document 01's
-  step-by : (l : List Step) → Followed l (𝓜 .workers * 𝓜 .entries) → (p : Place) → stepBy 𝓜 l p ≡ follow 𝓜 s p
+  step-by : (l : List Hop) → Followed l (𝓜 .workers * 𝓜 .entries) → (p : Place) → stepBy 𝓜 l p ≡ follow 𝓜 s p
   unfolding nextSeen placeIndex follow
   step-by l f Nowhere = refl
   step-by l f (At o e) = ⊎-elim within outside (or-else (ltb o (𝓜 .workers) && ltb e (𝓜 .entries)))
@@ -110,7 +110,7 @@ module _ (𝓜 : Machine) (s : Tables) where
       outside h = rw (h, entry-out o e h)
 
   -- and so is the walk
-  pub reached-by : (l : List Step) → Followed l (𝓜 .workers * 𝓜 .entries) → (from : Place) (o e : ℕ)
+  pub reached-by : (l : List Hop) → Followed l (𝓜 .workers * 𝓜 .entries) → (from : Place) (o e : ℕ)
       → walkMeets (isAt o e) (stepBy 𝓜 l) (𝓜 .workers * 𝓜 .entries) from ≡ reached 𝓜 s from o e
   unfolding reached
   reached-by l f from o e = walk-cong (isAt o e) (stepBy 𝓜 l) (follow 𝓜 s) (step-by l f) (𝓜 .workers * 𝓜 .entries) from
