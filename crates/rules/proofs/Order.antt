@@ -11,13 +11,15 @@ use Rattle.numbers.specs.Tests.{and-l, and-r}
 use Rattle.tables.specs.declared.Refusal.{Refusal}
 use Rattle.tables.specs.declared.Refusal.the-variants.{WorkerCount, NotSound, NoWorker, ToItself, NoCell, WrongKind, Busy, Unsafe, LastWeight, OverCeiling, NoEntry, NoRoom, NoSlot, NoMessage, NotReady}
 use Rattle.tables.specs.declared.Effect.{Effect}
+use Rattle.tables.specs.declared.Call.{Call}
+use Rattle.tables.specs.declared.Call.the-variants.{Start, New, Set, Bind, Export, Indirect, Transfer, Drop, ReadCell, AskWeight, Deliver, Bound}
 use Rattle.tables.specs.Machine.{Machine, Tables}
 use Rattle.tables.specs.Parts.{isEx}
 use Rattle.tables.specs.Look.{cell, end, endKind, room}
 use Rattle.rules.specs.Answers.{Check, _when_, checked, numberOf, precedence}
 use Rattle.rules.specs.Sound.{sound}
-use Rattle.rules.specs.Refusals.{newRefusals, setRefusals, bindRefusals, sendLines, byReferenceLines, byLocationLines, used, exportRefusals, indirectRefusals, transferRefusals, dropRefusals, readRefusals, askRefusals, deliverRefusals, boundRefusals}
-use Rattle.rules.specs.Order.{inOrderFrom, inOrder, Applies, first, later, LowestGiven}
+use Rattle.rules.specs.Refusals.{sendLines, byReferenceLines, byLocationLines, used}
+use Rattle.rules.specs.Order.{inOrderFrom, inOrder, Applies, first, later, LowestGiven, refusalsOf}
 
 -- what applies in a list in order stands no lower than where the list begins
 at-least : (n : ℕ) (l : List Check) → inOrderFrom n l ≡ true → (why : Refusal) → Applies why l → n ≤ precedence why
@@ -54,53 +56,23 @@ by-number NoSlot = refl
 by-number NoMessage = refl
 by-number NotReady = refl
 
-module _ (𝓜 : Machine) (s : Tables) where
-  pub new-in-order : (w : ℕ) → inOrder (newRefusals 𝓜 s w) ≡ true
-  unfolding inOrderFrom
-  new-in-order w = refl
-
-  pub set-in-order : (w c : ℕ) → inOrder (setRefusals 𝓜 s w c) ≡ true
-  unfolding inOrderFrom
-  set-in-order w c = refl
-
-  pub bind-in-order : (w c x : ℕ) → inOrder (bindRefusals 𝓜 s w c x) ≡ true
-  unfolding inOrderFrom
-  bind-in-order w c x = refl
-
-  pub export-in-order : (w c to : ℕ) → inOrder (exportRefusals 𝓜 s w c to) ≡ true
-  unfolding inOrderFrom
-  export-in-order w c to = go (isEx (endKind 𝓜 s w c))
-    where
-      -- by reference and by location
-      go : (ex : Bool)
-          → inOrder (sendLines (sound 𝓜 s) (s .p) w to (cell 𝓜 s w c) ++ cond ex (byReferenceLines 𝓜 (endKind 𝓜 s w c) (room 𝓜 s to)) (byLocationLines 𝓜 (used 𝓜 s w (end 𝓜 s w c)) (room 𝓜 s to))) ≡ true
-      go true = refl
-      go false = refl
-
-  pub indirect-in-order : (w c to : ℕ) → inOrder (indirectRefusals 𝓜 s w c to) ≡ true
-  unfolding inOrderFrom
-  indirect-in-order w c to = refl
-
-  pub transfer-in-order : (w c to : ℕ) → inOrder (transferRefusals 𝓜 s w c to) ≡ true
-  unfolding inOrderFrom
-  transfer-in-order w c to = refl
-
-  pub drop-in-order : (w c : ℕ) → inOrder (dropRefusals 𝓜 s w c) ≡ true
-  unfolding inOrderFrom
-  drop-in-order w c = refl
-
-  pub read-in-order : (w c : ℕ) → inOrder (readRefusals 𝓜 s w c) ≡ true
-  unfolding inOrderFrom
-  read-in-order w c = refl
-
-  pub ask-in-order : (w c : ℕ) → inOrder (askRefusals 𝓜 s w c) ≡ true
-  unfolding inOrderFrom
-  ask-in-order w c = refl
-
-  pub deliver-in-order : (k : ℕ) → inOrder (deliverRefusals 𝓜 s k) ≡ true
-  unfolding inOrderFrom
-  deliver-in-order k = refl
-
-  pub bound-in-order : inOrder (boundRefusals 𝓜 s) ≡ true
-  unfolding inOrderFrom
-  bound-in-order = refl
+pub in-order : (𝓜 : Machine) (s : Tables) (q : Call) → inOrder (refusalsOf 𝓜 s q) ≡ true
+unfolding inOrderFrom
+in-order 𝓜 s (Start p) = refl
+in-order 𝓜 s (New w) = refl
+in-order 𝓜 s (Set w c n) = refl
+in-order 𝓜 s (Bind w c x) = refl
+in-order 𝓜 s (Export w c to) = go (isEx (endKind 𝓜 s w c))
+  where
+    -- by reference and by location
+    go : (ex : Bool)
+        → inOrder (sendLines (sound 𝓜 s) (s .p) w to (cell 𝓜 s w c) ++ cond ex (byReferenceLines 𝓜 (endKind 𝓜 s w c) (room 𝓜 s to)) (byLocationLines 𝓜 (used 𝓜 s w (end 𝓜 s w c)) (room 𝓜 s to))) ≡ true
+    go true = refl
+    go false = refl
+in-order 𝓜 s (Indirect w c to) = refl
+in-order 𝓜 s (Transfer w c to) = refl
+in-order 𝓜 s (Drop w c) = refl
+in-order 𝓜 s (ReadCell w c) = refl
+in-order 𝓜 s (AskWeight w c) = refl
+in-order 𝓜 s (Deliver k) = refl
+in-order 𝓜 s Bound = refl
