@@ -173,37 +173,37 @@ module _ (s : State) (g : ReachedByReplies s) where
       (demand-3-of-eight .ready-succeeds (tables s) (reached-rules s g) ks k)
 
 -- ---- rest is reached: of the first n states one is at rest, or n deliveries have succeeded
-rest-or-more : (n : ℕ) (at : ℕ → State) (slot : ℕ → ℕ) → ReachedByReplies (at 0)
-    → ((i : ℕ) → AtRest eight (tables (at i)) ⊎ Taken (at i) (slot i) (at (suc i)))
-    → ((i : ℕ) × (i < n) × AtRest eight (tables (at i))) ⊎ ((ks : List ℕ) × DeliveredByReplies (at 0) ks n (at n))
+abbrev Takes : (ℕ → State) → (ℕ → ℕ) → Type 0
+Takes at slot = (i : ℕ) → AtRest eight (tables (at i)) ⊎ Taken (at i) (slot i) (at (suc i))
+
+abbrev RestOrMore : ℕ → (ℕ → State) → Type 0
+RestOrMore n at = ((i : ℕ) × (i < n) × AtRest eight (tables (at i))) ⊎ ((ks : List ℕ) × DeliveredByReplies (at 0) ks n (at n))
+
+rest-or-more : (n : ℕ) (at : ℕ → State) (slot : ℕ → ℕ) → ReachedByReplies (at 0) → Takes at slot → RestOrMore n at
 rest-or-more zero at slot g takes = inr ([], none)
 rest-or-more (suc n) at slot g takes = go (takes 0) (rest-or-more n (λ i. at (suc i)) (λ i. slot (suc i)))
   where
     go : AtRest eight (tables (at 0)) ⊎ Taken (at 0) (slot 0) (at 1)
-        → (ReachedByReplies (at 1) → ((i : ℕ) → AtRest eight (tables (at (suc i))) ⊎ Taken (at (suc i)) (slot (suc i)) (at (suc (suc i)))) → ((i : ℕ) × (i < n) × AtRest eight (tables (at (suc i)))) ⊎ ((ks : List ℕ) × DeliveredByReplies (at 1) ks n (at (suc n))))
-        → ((i : ℕ) × (i < suc n) × AtRest eight (tables (at i))) ⊎ ((ks : List ℕ) × DeliveredByReplies (at 0) ks (suc n) (at (suc n)))
+        → (ReachedByReplies (at 1) → Takes (λ i. at (suc i)) (λ i. slot (suc i)) → RestOrMore n (λ i. at (suc i))) → RestOrMore (suc n) at
     go (inl rest) rec = inl (0, omega arith, rest)
     go (inr x) rec = onward (rec (subst ReachedByReplies (x .leaves) (stepped g (Deliver (slot 0)) refl (x .answer) (x .replies))) (λ i. takes (suc i)))
       where
         one : succeeds (x .answer .outcome) ≡ true
         one = ready-by (at 0) g [] 0 (at 0) none (slot 0) (x .answer) (x .replies) ∙ x .is-ready
 
-        onward : ((i : ℕ) × (i < n) × AtRest eight (tables (at (suc i)))) ⊎ ((ks : List ℕ) × DeliveredByReplies (at 1) ks n (at (suc n)))
-            → ((i : ℕ) × (i < suc n) × AtRest eight (tables (at i))) ⊎ ((ks : List ℕ) × DeliveredByReplies (at 0) ks (suc n) (at (suc n)))
+        onward : RestOrMore n (λ i. at (suc i)) → RestOrMore (suc n) at
         onward (inl r) = inl (suc (r .0), omega (arith, r .1), r .2)
         onward (inr d) =
-            let later : DeliveredByReplies (x .answer .state) (d .0) n (at (suc n)) = subst (λ (y : State). DeliveredByReplies y (d .0) n (at (suc n))) (sym (x .leaves)) (d .1) in
+            let later = subst (λ (y : State). DeliveredByReplies y (d .0) n (at (suc n))) (sym (x .leaves)) (d .1) in
             let all = then (slot 0) (x .answer) (x .replies) later in
             let count : bit (succeeds (x .answer .outcome)) + n ≡ suc n = omega (arith, ap bit one) in
             inr (slot 0 ∷ d .0, subst (λ (i : ℕ). DeliveredByReplies (at 0) (slot 0 ∷ d .0) i (at (suc n))) count all)
 
-rest-reached : (at : ℕ → State) (slot : ℕ → ℕ) → ReachedByReplies (at 0) → (b : Reply) → Replies (at 0) Bound b
-    → ((n : ℕ) → AtRest eight (tables (at n)) ⊎ Taken (at n) (slot n) (at (suc n)))
+rest-reached : (at : ℕ → State) (slot : ℕ → ℕ) → ReachedByReplies (at 0) → (b : Reply) → Replies (at 0) Bound b → Takes at slot
     → (n : ℕ) × (n ≤ valueOf (b .outcome)) × AtRest eight (tables (at n))
 rest-reached at slot g b m takes = go (rest-or-more (suc (valueOf (b .outcome))) at slot g takes)
   where
-    go : ((i : ℕ) × (i < suc (valueOf (b .outcome))) × AtRest eight (tables (at i))) ⊎ ((ks : List ℕ) × DeliveredByReplies (at 0) ks (suc (valueOf (b .outcome))) (at (suc (valueOf (b .outcome)))))
-        → (n : ℕ) × (n ≤ valueOf (b .outcome)) × AtRest eight (tables (at n))
+    go : RestOrMore (suc (valueOf (b .outcome))) at → (n : ℕ) × (n ≤ valueOf (b .outcome)) × AtRest eight (tables (at n))
     go (inl r) = (r .0, omega (arith, r .1), r .2)
     go (inr d) =
         absurd (omega (arith, at-most (at 0) g b m (d .0) (suc (valueOf (b .outcome))) (at (suc (valueOf (b .outcome)))) (d .1)))
@@ -226,7 +226,8 @@ promised s g =
           let q = delivered-rules s ks n t d .1 in
           subst (λ (y : Tables). readOfUnbound eight y (message y k) ≡ true) (sym q) (D .only-unbound-reads (tables s) r ks (subst (AtRest eight) q rest) k);
       rest-is-reached =
-          λ b m at slot first takes. rest-reached at slot (subst ReachedByReplies (sym first) g) b (subst (λ (y : State). Replies y Bound b) (sym first) m) takes;
+          λ b m at slot first takes.
+          rest-reached at slot (subst ReachedByReplies (sym first) g) b (subst (λ (y : State). Replies y Bound b) (sym first) m) takes;
       brought =
           λ ks n t d rest w c o e m v a is ends.
           let q = delivered-rules s ks n t d .1 in
@@ -236,7 +237,9 @@ promised s g =
       reference-keeps-naming =
           λ q n x m. subst (KeepsNaming eight (tables s)) (sym (next-is s q x m)) (D .reference-keeps-naming (tables s) r q n);
       reference-keeps-context =
-          λ q n x m o e live. subst (λ (t : Tables). isLive (entry eight t o e) ≡ true → KeepsContext eight (tables s) t o e) (sym (next-is s q x m)) (D .reference-keeps-context (tables s) r q n o e live);
+          λ q n x m o e live.
+          subst (λ (t : Tables). isLive (entry eight t o e) ≡ true → KeepsContext eight (tables s) t o e) (sym (next-is s q x m))
+          (D .reference-keeps-context (tables s) r q n o e live);
     }
 
 -- ---- and of any sound state of the machine's sizes: whatever the call, the state in its reply is sound

@@ -47,7 +47,8 @@ in-sound true l d e h = ap (checked l) (h refl)
 in-sound false l d e h = refl
 
 -- a call's reply: its verdict is that of its refusals, and what is done is, in a sound state, what the rule says
-pub decides : (𝓜 : Machine) (s : Tables) (l : List Check) (e : Effect) (v : Verdict) (d : Effect) → v ≡ along Go (notSound (sound 𝓜 s) ∷ l) → (sound 𝓜 s ≡ true → d ≡ e)
+pub decides : (𝓜 : Machine) (s : Tables) (l : List Check) (e : Effect) (v : Verdict) (d : Effect)
+    → v ≡ along Go (notSound (sound 𝓜 s) ∷ l) → (sound 𝓜 s ≡ true → d ≡ e)
     → reply (made 𝓜 s (settled v d)) ≡ reply (made 𝓜 s (checked (notSound (sound 𝓜 s) ∷ l) e))
 unfolding settled
 decides 𝓜 s l e v d is h =

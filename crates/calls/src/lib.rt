@@ -1,15 +1,25 @@
 // The twelve calls of document 01, each equal to its rule for all states and all numbers, and the step that takes a call apart.
+ghost use Prim.Native.Nat.{_≤_};
 ghost use mathlib.Core.Path.{_≡_};
-ghost use Rattle.tables.specs.Machine.{eight, tables};
+ghost use mathlib.Core.Bool.{true};
+ghost use Rattle.tables.specs.Machine.{Tables, eight, tables};
+ghost use Rattle.tables.specs.Parts.{messageWeight};
 ghost use Rattle.rules.specs.Answers.{made, reply};
+ghost use Rattle.rules.specs.Sound.{sound};
+ghost use Rattle.rules.specs.Refusals.{readEnd};
 ghost use Rattle.rules.specs.Calls.{start, new, set, bind, export, indirect, transfer, drop, read, ask, bound};
-ghost use Rattle.rules.specs.Deliver.{deliver};
+ghost use Rattle.rules.specs.Deliver.{deliverMessage, deliver};
 ghost use Rattle.rules.specs.Step.{step};
 
 mod refusals;
 mod verdict;
 
-use changes::deliveries::deliver_message;
+use changes::deliveries::deliver_answer;
+use changes::deliveries::deliver_ask;
+use changes::deliveries::deliver_read;
+use changes::deliveries::deliver_reference;
+use changes::deliveries::deliver_release;
+use changes::deliveries::deliver_supply;
 use changes::deliveries::read_end;
 use numbers::either;
 use refusals::bind_refusals;
@@ -23,7 +33,11 @@ use refusals::send_refusals;
 use refusals::slot_refusal;
 use refusals::worker_refusals;
 use tables::Call;
+use tables::CellTable;
+use tables::Effect;
+use tables::EntryTable;
 use tables::Kind;
+use tables::Message;
 use tables::Outcome;
 use tables::Refusal;
 use tables::Reply;
@@ -207,6 +221,44 @@ pub fn bound(s: State) -> Reply
     let v = Verdict::Go.refuse_if(!sound::is_sound(s), Refusal::NotSound);
     let done = changes::unchanged(Outcome::Done(changes::all_costs(entries, slots)));
     changes::replied(s, v.answer(done))
+}
+
+// The message m in the slot k, which comes to this end if it is a Read.
+fn deliver_message(cells: CellTable, entries: EntryTable, k: u8, m: Message, end: Kind) -> Effect
+    ensures { λ r. ⌜ ((t : Tables) → t .cells ≡ cells → t .entries ≡ entries → sound eight t ≡ true → messageWeight m ≤ 1048576 → end ≡ readEnd eight t m → r ≡ deliverMessage eight t k m) ⌝ }
+{
+    match m {
+        Message::Empty => changes::unchanged(Outcome::Done(0)),
+        Message::Reference {
+            to,
+            owner,
+            entry,
+            weight,
+        } => deliver_reference(cells, entries, k, to, owner, entry, weight),
+        Message::Release {
+            owner,
+            entry,
+            weight,
+        } => deliver_release(entries, k, owner, entry, weight),
+        Message::Read {
+            reader,
+            cell,
+            owner,
+            entry,
+        } => deliver_read(k, reader, cell, owner, entry, end),
+        Message::Answer { reader, cell, n } => deliver_answer(cells, k, reader, cell, n),
+        Message::Ask {
+            asker,
+            cell,
+            owner,
+            entry,
+        } => deliver_ask(entries, k, asker, cell, owner, entry),
+        Message::Supply {
+            asker,
+            cell,
+            weight,
+        } => deliver_supply(cells, k, asker, cell, weight),
+    }
 }
 
 // The message in the slot is delivered.

@@ -53,11 +53,13 @@ module _ (𝓜 : Machine) (s : Tables) where
   pub followed-more : {l : List Hop} {n : ℕ} {p : Place} → Followed l n → n < 𝓜 .workers * 𝓜 .entries
       → p ≡ follow 𝓜 s (At (n / 𝓜 .entries) (n % 𝓜 .entries)) → Followed (set l n (record { next = p })) (n + 1)
   followed-more {l} {n} {p} f h e =
+      let here : Hop = record { next = p } in
+      let none : Hop = record { next = Nowhere } in
       record {
         size = simp length-set (f .size);
         at = λ j k. ⊎-elim
-            (λ (a : j < n). ap (λ (x : Hop). x .next) (getD-set-other l n j (record { next = p }) (record { next = Nowhere }) (λ q. omega arith)) ∙ f .at j a)
-            (λ (a : j ≡ n). rw a (ap (λ (x : Hop). x .next) (getD-set-same l n (record { next = p }) (record { next = Nowhere }) (let m = f .size in omega arith)) ∙ e))
+            (λ (a : j < n). ap (λ (x : Hop). x .next) (getD-set-other l n j here none (λ q. omega arith)) ∙ f .at j a)
+            (λ (a : j ≡ n). rw a (ap (λ (x : Hop). x .next) (getD-set-same l n here none (let m = f .size in omega arith)) ∙ e))
             (below-cases j n (omega arith));
       }
 
@@ -73,7 +75,9 @@ module _ (𝓜 : Machine) (s : Tables) where
   through-live w (Live c n t) h e = refl
 
   -- of the entry at the place i of the list
-  module _ (i : ℕ) (w : i / 𝓜 .entries < 𝓜 .workers) (e : i % 𝓜 .entries < 𝓜 .entries) (here : holdingAt (s .entries) i ≡ holdingAt (s .entries) (i / 𝓜 .entries * 𝓜 .entries + i % 𝓜 .entries)) where
+  module _
+      (i : ℕ) (w : i / 𝓜 .entries < 𝓜 .workers) (e : i % 𝓜 .entries < 𝓜 .entries)
+      (here : holdingAt (s .entries) i ≡ holdingAt (s .entries) (i / 𝓜 .entries * 𝓜 .entries + i % 𝓜 .entries)) where
     follow-here : {p : Place} → p ≡ through 𝓜 s (i / 𝓜 .entries) (holdingAt (s .entries) i) → p ≡ follow 𝓜 s (At (i / 𝓜 .entries) (i % 𝓜 .entries))
     unfolding follow
     follow-here h = rw (entry-in 𝓜 s (i / 𝓜 .entries) (i % 𝓜 .entries) w e, ← here) h
@@ -88,7 +92,11 @@ module _ (𝓜 : Machine) (s : Tables) where
     step-read h f c k d l next =
         follow-here (rw (l, d, k, c) at next ∙ through-live (i / 𝓜 .entries) (holdingAt (s .entries) i) h f)
 
-  entry-out : (o e : ℕ) → (ltb o (𝓜 .workers) && ltb e (𝓜 .entries)) ≡ false → entry 𝓜 s o e ≡ Unused
+  -- a place in the table
+  abbrev there : ℕ → ℕ → Bool
+  there o e = ltb o (𝓜 .workers) && ltb e (𝓜 .entries)
+
+  entry-out : (o e : ℕ) → there o e ≡ false → entry 𝓜 s o e ≡ Unused
   unfolding entry
   entry-out o e h = rw h
 
@@ -96,17 +104,17 @@ module _ (𝓜 : Machine) (s : Tables) where
   step-by : (l : List Hop) → Followed l (𝓜 .workers * 𝓜 .entries) → (p : Place) → stepBy 𝓜 l p ≡ follow 𝓜 s p
   unfolding nextSeen placeIndex follow
   step-by l f Nowhere = refl
-  step-by l f (At o e) = ⊎-elim within outside (or-else (ltb o (𝓜 .workers) && ltb e (𝓜 .entries)))
+  step-by l f (At o e) = ⊎-elim within outside (or-else (there o e))
     where
-      within : (ltb o (𝓜 .workers) && ltb e (𝓜 .entries)) ≡ true
-          → cond (ltb o (𝓜 .workers) && ltb e (𝓜 .entries)) (nextAt l (cond (ltb o (𝓜 .workers) && ltb e (𝓜 .entries)) (o * 𝓜 .entries + e) 0)) Nowhere ≡ through 𝓜 s o (entry 𝓜 s o e)
+      within : there o e ≡ true
+          → cond (there o e) (nextAt l (cond (there o e) (o * 𝓜 .entries + e) 0)) Nowhere ≡ through 𝓜 s o (entry 𝓜 s o e)
       within h =
           let ow : o < 𝓜 .workers = ltb-true o (𝓜 .workers) (and-l (ltb o (𝓜 .workers)) (ltb e (𝓜 .entries)) h) in
           let el : e < 𝓜 .entries = ltb-true e (𝓜 .entries) (and-r (ltb o (𝓜 .workers)) (ltb e (𝓜 .entries)) h) in
           rw h (f .at (o * 𝓜 .entries + e) (digits-lt ow el) ∙ ap₂ (λ (a b : ℕ). follow 𝓜 s (At a b)) (digits-div o el) (digits-mod o el))
 
-      outside : (ltb o (𝓜 .workers) && ltb e (𝓜 .entries)) ≡ false
-          → cond (ltb o (𝓜 .workers) && ltb e (𝓜 .entries)) (nextAt l (cond (ltb o (𝓜 .workers) && ltb e (𝓜 .entries)) (o * 𝓜 .entries + e) 0)) Nowhere ≡ through 𝓜 s o (entry 𝓜 s o e)
+      outside : there o e ≡ false
+          → cond (there o e) (nextAt l (cond (there o e) (o * 𝓜 .entries + e) 0)) Nowhere ≡ through 𝓜 s o (entry 𝓜 s o e)
       outside h = rw (h, entry-out o e h)
 
   -- and so is the walk

@@ -27,7 +27,10 @@ use Rattle.tables.specs.Parts.{messageWeight}
 anywhere : {A : Type 0} (p : ℕ → A → Bool) (q : A → Bool) (l : List A) (d : A) → ((i : ℕ) (x : A) → p i x ≡ true → q x ≡ true) → q d ≡ true
     → each p l ≡ true → (i : ℕ) → q (getD l i d) ≡ true
 anywhere p q l d f z h i =
-    ⊎-elim (λ a. f i (getD l i d) (each-at p l d h i (omega (arith, ltb-true)))) (λ a. rw (List·getD-eq-default l d {n = i} (omega (arith, ltb-false))) z) (or-else (ltb i (length l)))
+    ⊎-elim
+    (λ a. f i (getD l i d) (each-at p l d h i (omega (arith, ltb-true))))
+    (λ a. rw (List·getD-eq-default l d {n = i} (omega (arith, ltb-false))) z)
+    (or-else (ltb i (length l)))
 
 -- 0 is no weight to pass the ceiling
 no-weight : (𝓜 : Machine) → leb 0 (𝓜 .ceiling) ≡ true

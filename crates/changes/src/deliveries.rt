@@ -2,18 +2,17 @@
 ghost use Prim.Native.Nat.{_≤_, _-_, min};
 ghost use mathlib.Core.Path.{_≡_};
 ghost use mathlib.Core.Bool.{true};
-ghost use Rattle.tables.specs.declared.Message.the-variants.{Reference};
+ghost use Rattle.tables.specs.declared.Message.the-variants.{Reference, Read};
+ghost use Rattle.tables.specs.declared.Change.the-variants.{OfSlot};
 ghost use Rattle.tables.specs.Machine.{Tables, eight};
 ghost use Rattle.tables.specs.Parts.{exWeight, entryWeight};
+ghost use Rattle.rules.specs.Answers.{done};
 ghost use Rattle.rules.specs.Sound.{sound};
 ghost use Rattle.rules.specs.Chains.{entryEnd};
 ghost use Rattle.rules.specs.Deliver.{takenOff, joined, known, supplied, grown, readOnEx, readOn, arrivalCell, deliverMessage};
-ghost use Rattle.rules.specs.Deliver.{deliverHome, deliverAway, deliverRelease, deliverRead, deliverAnswer, deliverSupply, deliverAsk};
-ghost use Rattle.tables.specs.Parts.{messageWeight};
-ghost use Rattle.tables.specs.Look.{entry};
+ghost use Rattle.rules.specs.Deliver.{deliverHome, deliverAway, deliverRelease, deliverAnswer, deliverSupply, deliverAsk};
 ghost use Rattle.rules.specs.Refusals.{readEnd};
 use super::add_weights;
-use super::unchanged;
 use super::with_cell_and_message;
 use super::with_entry_and_message;
 use super::with_message;
@@ -266,7 +265,7 @@ fn deliver_away(cells: CellTable, k: u8, to: u8, o: u8, e: u8, w: u32) -> Effect
     with_cell_and_message(Outcome::Done(c as u32), to, c, ex, k, Message::Empty)
 }
 
-fn deliver_reference(
+pub fn deliver_reference(
     cells: CellTable,
     entries: EntryTable,
     k: u8,
@@ -283,7 +282,7 @@ fn deliver_reference(
     deliver_away(cells, k, to, o, e, w)
 }
 
-fn deliver_release(entries: EntryTable, k: u8, o: u8, e: u8, w: u32) -> Effect
+pub fn deliver_release(entries: EntryTable, k: u8, o: u8, e: u8, w: u32) -> Effect
     ensures { λ r. ⌜ ((t : Tables) → t .entries ≡ entries → r ≡ deliverRelease eight t k o e w) ⌝ }
 {
     let left = taken_off(w, lookups::entry_at(entries, o, e));
@@ -291,8 +290,8 @@ fn deliver_release(entries: EntryTable, k: u8, o: u8, e: u8, w: u32) -> Effect
 }
 
 // A Read that comes to this end.
-fn deliver_read(k: u8, r: u8, c: u8, o: u8, e: u8, end: Kind) -> Effect
-    ensures { λ q. ⌜ ((t : Tables) → end ≡ entryEnd eight t o (entry eight t o e) → q ≡ deliverRead eight t k r c o e) ⌝ }
+pub fn deliver_read(k: u8, r: u8, c: u8, o: u8, e: u8, end: Kind) -> Effect
+    ensures { λ q. ⌜ q ≡ done 0 (OfSlot k (readOn r c (Read r c o e) end)) ⌝ }
 {
     let m = Message::Read {
         reader: r,
@@ -303,21 +302,21 @@ fn deliver_read(k: u8, r: u8, c: u8, o: u8, e: u8, end: Kind) -> Effect
     with_message(Outcome::Done(0), k, read_on(r, c, m, end))
 }
 
-fn deliver_answer(cells: CellTable, k: u8, r: u8, c: u8, v: u32) -> Effect
+pub fn deliver_answer(cells: CellTable, k: u8, r: u8, c: u8, v: u32) -> Effect
     ensures { λ q. ⌜ ((t : Tables) → t .cells ≡ cells → q ≡ deliverAnswer eight t k r c v) ⌝ }
 {
     let ex = known(v, lookups::cell_at(cells, r, c));
     with_cell_and_message(Outcome::Done(c as u32), r, c, ex, k, Message::Empty)
 }
 
-fn deliver_supply(cells: CellTable, k: u8, a: u8, c: u8, w: u32) -> Effect
+pub fn deliver_supply(cells: CellTable, k: u8, a: u8, c: u8, w: u32) -> Effect
     ensures { λ r. ⌜ ((t : Tables) → t .cells ≡ cells → sound eight t ≡ true → w ≤ 1048576 → r ≡ deliverSupply eight t k a c w) ⌝ }
 {
     let ex = supplied(w, lookups::cell_at(cells, a, c));
     with_cell_and_message(Outcome::Done(c as u32), a, c, ex, k, Message::Empty)
 }
 
-fn deliver_ask(entries: EntryTable, k: u8, a: u8, c: u8, o: u8, e: u8) -> Effect
+pub fn deliver_ask(entries: EntryTable, k: u8, a: u8, c: u8, o: u8, e: u8) -> Effect
     ensures { λ r. ⌜ ((t : Tables) → t .entries ≡ entries → r ≡ deliverAsk eight t k a c o e) ⌝ }
 {
     let x = lookups::entry_at(entries, o, e);
@@ -327,48 +326,4 @@ fn deliver_ask(entries: EntryTable, k: u8, a: u8, c: u8, o: u8, e: u8) -> Effect
         weight: supply_from(parts::entry_weight(x)),
     };
     with_entry_and_message(Outcome::Done(0), o, e, grown(x), k, m)
-}
-
-// The message m in the slot k, which comes to this end if it is a Read.
-pub fn deliver_message(
-    cells: CellTable,
-    entries: EntryTable,
-    k: u8,
-    m: Message,
-    end: Kind,
-) -> Effect
-    ensures { λ r. ⌜ ((t : Tables) → t .cells ≡ cells → t .entries ≡ entries → sound eight t ≡ true → messageWeight m ≤ 1048576 → end ≡ readEnd eight t m → r ≡ deliverMessage eight t k m) ⌝ }
-{
-    match m {
-        Message::Empty => unchanged(Outcome::Done(0)),
-        Message::Reference {
-            to,
-            owner,
-            entry,
-            weight,
-        } => deliver_reference(cells, entries, k, to, owner, entry, weight),
-        Message::Release {
-            owner,
-            entry,
-            weight,
-        } => deliver_release(entries, k, owner, entry, weight),
-        Message::Read {
-            reader,
-            cell,
-            owner,
-            entry,
-        } => deliver_read(k, reader, cell, owner, entry, end),
-        Message::Answer { reader, cell, n } => deliver_answer(cells, k, reader, cell, n),
-        Message::Ask {
-            asker,
-            cell,
-            owner,
-            entry,
-        } => deliver_ask(entries, k, asker, cell, owner, entry),
-        Message::Supply {
-            asker,
-            cell,
-            weight,
-        } => deliver_supply(cells, k, asker, cell, weight),
-    }
 }

@@ -90,9 +90,11 @@ module _ (𝓜 : Machine) (s : Tables) (w : ℕ) (inside : w < 𝓜 .workers) wh
       → r ≡ entryNamesCell 𝓜 s w e x
   unfolding entriesNaming
   entry-names e Unused h g = g
-  entry-names e (Live c n t) h g =
-      let count : countBelow (𝓜 .entries) (λ d. entryNames c (holdingAt (s .entries) (w * 𝓜 .entries + d))) ≡ countBelow (𝓜 .entries) (λ d. entryNames c (entry 𝓜 s w d)) = sum-cong (𝓜 .entries) _ _ (λ d l. ap (λ (y : Holding). bit (entryNames c y)) (sym (entry-in 𝓜 s w d inside l))) in
-      rw (h ∙ count, safe-seen (endKind 𝓜 s w c)) at g
+  entry-names e {twins = twins} (Live c n t) h g =
+      let names : Holding → ℕ = λ y. bit (entryNames c y) in
+      let count : twins ≡ countBelow (𝓜 .entries) (λ d. entryNames c (entry 𝓜 s w d)) =
+      h ∙ sum-cong (𝓜 .entries) _ _ (λ d l. ap names (sym (entry-in 𝓜 s w d inside l))) in
+      rw (count, safe-seen (endKind 𝓜 s w c)) at g
 
   pub entry-names-by : (e : ℕ) {c d twins : ℕ} {k l : Kind} {at : Place} {y : Holding} {r : Bool} (x : Holding)
       → c ≡ cellOf x → k ≡ cell 𝓜 s w c → d ≡ endFrom k c → l ≡ cell 𝓜 s w d → at ≡ namedBy l → y ≡ entryThere 𝓜 s at

@@ -60,4 +60,5 @@ pigeon (suc n) f h = go (someBelow (suc n) same) refl (pigeon n (λ i. without (
         let other : (i : ℕ) → i ≤ n → f i ≡ f (suc n) → ⊥ = λ i l. eqb-false (f i) (f (suc n)) (some-none (suc n) same t i (omega arith)) in
         let r = rec (λ i l. without-less n (f (suc n)) (f i) (h i (omega arith)) (h (suc n) (omega arith)) (other i l)) in
         let early : r .first ≤ n = omega (arith, r .before, r .within) in
-        record { first = r .first; second = r .second; before = r .before; within = omega (arith, r .within); same = without-same (f (suc n)) (f (r .first)) (f (r .second)) (other (r .first) early) (other (r .second) (r .within)) (r .same) }
+        let same-too = without-same (f (suc n)) (f (r .first)) (f (r .second)) (other (r .first) early) (other (r .second) (r .within)) (r .same) in
+        record { first = r .first; second = r .second; before = r .before; within = omega (arith, r .within); same = same-too }

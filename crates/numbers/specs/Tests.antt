@@ -52,11 +52,7 @@ pub or-r : (a : Bool) {b : Bool} → b ≡ true → (a || b) ≡ true
 or-r true h = refl
 or-r false h = h
 
--- what is left of a disjunction whose first, or second, part fails
-pub or-left : (a b : Bool) → (a || b) ≡ true → b ≡ false → a ≡ true
-or-left true b h k = refl
-or-left false b h k = absurd-bool h k
-
+-- what is left of a disjunction whose first part fails
 pub or-right : (a b : Bool) → (a || b) ≡ true → a ≡ false → b ≡ true
 or-right true b h k = absurd-bool refl k
 or-right false b h k = h

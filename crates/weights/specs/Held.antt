@@ -82,7 +82,8 @@ module _ (𝓜 : Machine) (s : Tables) (o e : ℕ) where
   unused-weighs (Live c w tainted) h t = absurd-bool t h
 
   pub entry-weighs-by : {cells slots : ℕ} {r : Bool} (x : Holding) → length (s .cells) ≡ 𝓜 .workers * 𝓜 .cells → length (s .slots) ≡ 𝓜 .slots
-      → cells ≡ sumBelow (𝓜 .workers * 𝓜 .cells) (λ j. cellHolds 𝓜 s o e (kindAt (s .cells) j)) → slots ≡ sumBelow (𝓜 .slots) (λ j. messageHolds 𝓜 s o e (messageAt (s .slots) j))
+      → cells ≡ sumBelow (𝓜 .workers * 𝓜 .cells) (λ j. cellHolds 𝓜 s o e (kindAt (s .cells) j))
+      → slots ≡ sumBelow (𝓜 .slots) (λ j. messageHolds 𝓜 s o e (messageAt (s .slots) j))
       → r ≡ weighsSeen (cells + slots) x → r ≡ entryWeighs 𝓜 s o e x
   unfolding held
   entry-weighs-by Unused p q cells slots h = h

@@ -9,20 +9,7 @@ use Rattle.calls.proofs.ask.Tie as tie
 pub ask-spec : {M : Type 1} → statement M
 unfolding along ask
 ask-spec =
-    tie.close
-    (tie.spec
-    (λ c κs. tt)
-    (λ c κs. tt)
-    (λ c κs. tt)
-    (λ c κs. tt)
-    (λ c κs. tt)
-    (λ c κs. tt)
-    (λ c κs. tt)
-    (λ c κs. tt)
-    (λ c κs. tt)
-    (λ c κs. tt)
-    (λ c κs. tt)
-    (λ c.
+    let returns : tie.Need-returns = λ c.
     let d = c .before .before .before .before in
     let e = d .before .before .before .before in
     let f = e .before .before .before .before in
@@ -31,5 +18,7 @@ ask-spec =
     let slot = e .before .lowest-empty-slot .ensures t refl in
     rw (c .replied .ensures, c .before .answer .ensures)
     (decides eight t _ _ _ _
-    (rw (c .before .before .before .slot-refusal .ensures, d .is-asking .ensures, d .before .refuse-if .ensures, d .before .before .is-ex .ensures, d .before .before .before .cell-refusals .ensures, e .is-sound .ensures, slot, look))
-    (λ h. rw (c .before .before .ask-at .ensures, slot, look)))))
+    (rw (c .before .before .before .slot-refusal .ensures, d .is-asking .ensures, d .before .refuse-if .ensures)
+    (rw (d .before .before .is-ex .ensures, d .before .before .before .cell-refusals .ensures, e .is-sound .ensures, slot, look)))
+    (λ h. rw (c .before .before .ask-at .ensures, slot, look))) in
+    tie.close (search tie.spec)

@@ -9,19 +9,12 @@ use Rattle.calls.proofs.bound.Tie as tie
 pub bound-spec : {M : Type 1} → statement M
 unfolding along bound
 bound-spec =
-    tie.close
-    (tie.spec
-    (λ c κs. tt)
-    (λ c κs. tt)
-    (λ c κs. tt)
-    (λ c κs. tt)
-    (λ c κs. tt)
-    (λ c κs. tt)
-    (λ c.
+    let returns : tie.Need-returns = λ c.
     let d = c .before .before .before .before in
     let e = d .before .before .before .before in
     let t = tables (e .args .s) in
     rw (c .replied .ensures, c .before .answer .ensures)
     (decides eight t _ _ _ _
     (rw (d .refuse-if .ensures, d .before .is-sound .ensures))
-    (λ h. rw (c .before .before .unchanged .ensures, c .before .before .before .all-costs .ensures t refl refl)))))
+    (λ h. rw (c .before .before .unchanged .ensures, c .before .before .before .all-costs .ensures t refl refl))) in
+    tie.close (search tie.spec)

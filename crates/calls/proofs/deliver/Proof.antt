@@ -11,20 +11,7 @@ use Rattle.calls.proofs.deliver.Tie as tie
 pub deliver-spec : {M : Type 1} → statement M
 unfolding along deliver ready
 deliver-spec =
-    tie.close
-    (tie.spec
-    (λ c κs. tt)
-    (λ c κs. tt)
-    (λ c κs. tt)
-    (λ c κs. tt)
-    (λ c κs. tt)
-    (λ c κs. tt)
-    (λ c κs. tt)
-    (λ c κs. tt)
-    (λ c κs. tt)
-    (λ c κs. tt)
-    (λ c κs. tt)
-    (λ c.
+    let returns : tie.Need-returns = λ c.
     let d = c .before .before .before .before in
     let e = d .before .before .before .before in
     let f = e .before .before .before .before in
@@ -33,5 +20,7 @@ deliver-spec =
     let end = e .before .read-end .ensures t refl refl in
     rw (c .replied .ensures, c .before .answer .ensures)
     (decides eight t _ _ _ _
-    (rw (c .before .before .before .refuse-if3 .ensures, d .is-ready .ensures, end, d .before .refuse-if2 .ensures, d .before .before .is-empty .ensures, d .before .before .before .refuse-if .ensures, e .is-sound .ensures, m))
-    (λ h. rw (c .before .before .deliver-message .ensures t refl refl h (rw m (message-weight _ _ h _)) end, m)))))
+    (rw (c .before .before .before .refuse-if3 .ensures, d .is-ready .ensures, end, d .before .refuse-if2 .ensures)
+    (rw (d .before .before .is-empty .ensures, d .before .before .before .refuse-if .ensures, e .is-sound .ensures, m)))
+    (λ h. rw (c .before .before .deliver-message .ensures t refl refl h (rw m (message-weight _ _ h _)) end, m))) in
+    tie.close (search tie.spec)

@@ -10,20 +10,7 @@ use Rattle.calls.proofs.drop.Tie as tie
 pub drop-spec : {M : Type 1} → statement M
 unfolding along drop busy
 drop-spec =
-    tie.close
-    (tie.spec
-    (λ c κs. tt)
-    (λ c κs. tt)
-    (λ c κs. tt)
-    (λ c κs. tt)
-    (λ c κs. tt)
-    (λ c κs. tt)
-    (λ c κs. tt)
-    (λ c κs. tt)
-    (λ c κs. tt)
-    (λ c κs. tt)
-    (λ c κs. tt)
-    (λ c.
+    let returns : tie.Need-returns = λ c.
     let d = c .before .before .before .before in
     let e = d .before .before .before .before in
     let f = e .before .before .before .before in
@@ -32,5 +19,7 @@ drop-spec =
     let slot = e .lowest-empty-slot .ensures t refl in
     rw (c .replied .ensures, c .before .answer .ensures)
     (decides eight t _ _ _ _
-    (rw (c .before .before .before .slot-refusal .ensures, d .refuse-if .ensures, d .before .cell-refusals .ensures, d .before .before .is-sound .ensures, d .before .before .before .is-ex .ensures, slot, e .before .is-busy .ensures t refl refl, k))
-    (λ h. rw (c .before .before .dropped .ensures, slot, k)))))
+    (rw (c .before .before .before .slot-refusal .ensures, d .refuse-if .ensures, d .before .cell-refusals .ensures)
+    (rw (d .before .before .is-sound .ensures, d .before .before .before .is-ex .ensures, slot, e .before .is-busy .ensures t refl refl, k)))
+    (λ h. rw (c .before .before .dropped .ensures, slot, k))) in
+    tie.close (search tie.spec)

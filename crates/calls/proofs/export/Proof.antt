@@ -11,18 +11,7 @@ use Rattle.calls.proofs.export.Tie as tie
 pub export-spec : {M : Type 1} → statement M
 unfolding along export endKind
 export-spec =
-    tie.close
-    (tie.spec
-    (λ c κs. tt)
-    (λ c κs. tt)
-    (λ c κs. tt)
-    (λ c κs. tt)
-    (λ c κs. tt)
-    (λ c κs. tt)
-    (λ c κs. tt)
-    (λ c κs. tt)
-    (λ c κs. tt)
-    (λ c.
+    let returns : tie.Need-returns = λ c.
     let d = c .before .before .before .before in
     let e = d .before .before .before .before in
     let t = tables (e .before .before .before .before .args .s) in
@@ -32,4 +21,5 @@ export-spec =
     rw (c .replied .ensures, c .before .answer .ensures)
     (decides eight t _ _ _ _
     (rw (c .before .before .before .end-refusals .ensures, d .send-refusals .ensures, d .before .is-sound .ensures, room, u, look))
-    (λ h. rw (c .before .before .export-end .ensures (rw u (entry-weight _ _ h _ _)), room, u, look)))))
+    (λ h. rw (c .before .before .export-end .ensures (rw u (entry-weight _ _ h _ _)), room, u, look))) in
+    tie.close (search tie.spec)

@@ -10,21 +10,7 @@ use Rattle.calls.proofs.indirect.Tie as tie
 pub indirect-spec : {M : Type 1} → statement M
 unfolding along indirect
 indirect-spec =
-    tie.close
-    (tie.spec
-    (λ c κs. tt)
-    (λ c κs. tt)
-    (λ c κs. tt)
-    (λ c κs. tt)
-    (λ c κs. tt)
-    (λ c κs. tt)
-    (λ c κs. tt)
-    (λ c κs. tt)
-    (λ c κs. tt)
-    (λ c κs. tt)
-    (λ c κs. tt)
-    (λ c κs. tt)
-    (λ c.
+    let returns : tie.Need-returns = λ c.
     let d = c .before .before .before .before in
     let e = d .before .before .before .before in
     let f = e .before .before .before .before in
@@ -34,5 +20,7 @@ indirect-spec =
     let room = e .before .room-at .ensures t refl refl in
     rw (c .replied .ensures, c .before .answer .ensures)
     (decides eight t _ _ _ _
-    (rw (d .by-location-refusals .ensures, d .before .refuse-if .ensures, d .before .before .is-ex .ensures, d .before .before .before .send-refusals .ensures, e .is-sound .ensures, room, u, look))
-    (λ h. rw (c .before .before .by-location .ensures (rw u (entry-weight _ _ h _ _)), c .before .before .before .is-safe .ensures t refl, room, u, look)))))
+    (rw (d .by-location-refusals .ensures, d .before .refuse-if .ensures, d .before .before .is-ex .ensures)
+    (rw (d .before .before .before .send-refusals .ensures, e .is-sound .ensures, room, u, look)))
+    (λ h. rw (c .before .before .by-location .ensures (rw u (entry-weight _ _ h _ _)), c .before .before .before .is-safe .ensures t refl, room, u, look))) in
+    tie.close (search tie.spec)

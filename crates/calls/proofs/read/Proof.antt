@@ -9,18 +9,7 @@ use Rattle.calls.proofs.read.Tie as tie
 pub read-spec : {M : Type 1} → statement M
 unfolding along read
 read-spec =
-    tie.close
-    (tie.spec
-    (λ c κs. tt)
-    (λ c κs. tt)
-    (λ c κs. tt)
-    (λ c κs. tt)
-    (λ c κs. tt)
-    (λ c κs. tt)
-    (λ c κs. tt)
-    (λ c κs. tt)
-    (λ c κs. tt)
-    (λ c.
+    let returns : tie.Need-returns = λ c.
     let d = c .before .before .before .before in
     let e = d .before .before .before .before in
     let t = tables (e .before .before .before .args .s) in
@@ -28,5 +17,7 @@ read-spec =
     let slot = d .before .before .before .lowest-empty-slot .ensures t refl in
     rw (c .replied .ensures, c .before .answer .ensures)
     (decides eight t _ _ _ _
-    (rw (c .before .before .before .slot-refusal .ensures, d .read-sends .ensures, d .before .cell-refusals .ensures, d .before .before .is-sound .ensures, slot, look))
-    (λ h. rw (c .before .before .read-at .ensures, slot, look)))))
+    (rw (c .before .before .before .slot-refusal .ensures, d .read-sends .ensures)
+    (rw (d .before .cell-refusals .ensures, d .before .before .is-sound .ensures, slot, look)))
+    (λ h. rw (c .before .before .read-at .ensures, slot, look))) in
+    tie.close (search tie.spec)

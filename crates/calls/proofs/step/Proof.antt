@@ -8,31 +8,9 @@ pub step-spec : {M : Type 1} → statement M
 unfolding step
 step-spec =
     tie.close
-    (tie.spec
-    (λ c. search needs)
-    (λ c κs. tt)
-    (λ c. search needs)
-    (λ c κs. tt)
-    (λ c. search needs)
-    (λ c κs. tt)
-    (λ c. search needs)
-    (λ c κs. tt)
-    (λ c. search needs)
-    (λ c κs. tt)
-    (λ c. search needs)
-    (λ c κs. tt)
-    (λ c. search needs)
-    (λ c κs. tt)
-    (λ c. search needs)
-    (λ c κs. tt)
-    (λ c. search needs)
-    (λ c κs. tt)
-    (λ c. search needs)
-    (λ c κs. tt)
-    (λ c. search needs)
-    (λ c κs. tt)
-    (λ c. search needs)
-    (λ c κs. tt)
+    (tie.spec (λ c. search needs) _ (λ c. search needs) _ (λ c. search needs) _ (λ c. search needs) _
+    (λ c. search needs) _ (λ c. search needs) _ (λ c. search needs) _ (λ c. search needs) _ (λ c. search needs) _
+    (λ c. search needs) _ (λ c. search needs) _ (λ c. search needs) _
     (λ c. rw (c .start .ensures, c .before .before .q .given .1))
     (λ c. rw (c .new .ensures, c .before .before .q2 .given .1))
     (λ c. rw (c .set .ensures, c .before .before .q3 .given .1))

@@ -10,21 +10,7 @@ use Rattle.calls.proofs.transfer.Tie as tie
 pub transfer-spec : {M : Type 1} → statement M
 unfolding along transfer busy
 transfer-spec =
-    tie.close
-    (tie.spec
-    (λ c κs. tt)
-    (λ c κs. tt)
-    (λ c κs. tt)
-    (λ c κs. tt)
-    (λ c κs. tt)
-    (λ c κs. tt)
-    (λ c κs. tt)
-    (λ c κs. tt)
-    (λ c κs. tt)
-    (λ c κs. tt)
-    (λ c κs. tt)
-    (λ c κs. tt)
-    (λ c.
+    let returns : tie.Need-returns = λ c.
     let d = c .before .before .before .before in
     let e = d .before .before .before .before in
     let f = e .before .before .before .before in
@@ -33,5 +19,7 @@ transfer-spec =
     let room = e .before .room-at .ensures t refl refl in
     rw (c .replied .ensures, c .before .answer .ensures)
     (decides eight t _ _ _ _
-    (rw (c .before .before .before .room-refusals .ensures, d .refuse-if2 .ensures, d .before .refuse-if .ensures, d .before .before .is-ex .ensures, d .before .before .before .send-refusals .ensures, e .is-sound .ensures, room, e .before .before .is-busy .ensures t refl refl, k))
-    (λ h. rw (c .before .before .transferred .ensures, room, k)))))
+    (rw (c .before .before .before .room-refusals .ensures, d .refuse-if2 .ensures, d .before .refuse-if .ensures, d .before .before .is-ex .ensures)
+    (rw (d .before .before .before .send-refusals .ensures, e .is-sound .ensures, room, e .before .before .is-busy .ensures t refl refl, k)))
+    (λ h. rw (c .before .before .transferred .ensures, room, k))) in
+    tie.close (search tie.spec)

@@ -13,16 +13,5 @@ abbrev μ-loop : tie.MeasureT-loop
 pub crowd-spec : {M : Type 1} → statement M
 crowd-spec =
     tie.close
-    (tie.spec
-    Inv-loop
-    μ-loop
-    (λ c. search needs)
-    (λ c κs. tt)
-    (λ c. search needs)
-    (λ c κs. tt)
-    (λ c. tt)
-    (λ c κs. tt)
-    (λ c. search needs)
-    (λ c. search needs)
-    (λ c. tt)
-    (λ c. search needs))
+    (tie.spec Inv-loop μ-loop (λ c. search needs) _ (λ c. search needs) _ _ _ (λ c. search needs) (λ c. search needs)
+    _ (λ c. search needs))

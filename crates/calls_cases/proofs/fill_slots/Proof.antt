@@ -13,17 +13,5 @@ abbrev μ-loop : tie.MeasureT-loop
 pub fill-slots-spec : {M : Type 1} → statement M
 fill-slots-spec =
     tie.close
-    (tie.spec
-    Inv-loop
-    μ-loop
-    (λ c. search needs)
-    (λ c κs. tt)
-    (λ c κs. tt)
-    (λ c κs. tt)
-    (λ c κs. tt)
-    (λ c. tt)
-    (λ c κs. tt)
-    (λ c. search needs)
-    (λ c. search needs)
-    (λ c. tt)
+    (tie.spec Inv-loop μ-loop (λ c. search needs) _ _ _ _ _ _ (λ c. search needs) (λ c. search needs) _
     (λ c. search needs))

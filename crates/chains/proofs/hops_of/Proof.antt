@@ -19,16 +19,9 @@ abbrev μ-loop : tie.MeasureT-loop
 pub hops-of-spec : {M : Type 1} → statement M
 hops-of-spec =
     tie.close
-    (tie.spec
-    Inv-loop
-    μ-loop
+    (tie.spec Inv-loop μ-loop
     (λ c. (followed-none eight _ _ refl, search needs))
-    (λ c. search needs)
-    (λ c. search needs)
-    (λ c κs. tt)
-    (λ c. search needs)
-    (λ c. search needs)
-    (λ c. search needs)
+    (λ c. search needs) (λ c. search needs) _ (λ c. search needs) (λ c. search needs) (λ c. search needs)
     (λ c. search needs)
     (λ c.
     let d = c .before in
@@ -36,23 +29,10 @@ hops-of-spec =
     let s = tables (loop .before .args .t1) in
     let i = loop .loop .i in
     let same : i ≡ i / 16 * 16 + i % 16 = omega arith in
-    (followed-more eight s (loop .loop .inv .0) (omega arith) (no-step eight s i (omega arith) (omega arith) (ap (holdingAt (s .entries)) same) (d .is-unused .ensures) (c .if1 .taken)), search needs))
-    (λ c. search needs)
-    (λ c κs. tt)
-    (λ c κs. tt)
-    (λ c. search needs)
-    (λ c. search needs)
-    (λ c κs. tt)
-    (λ c κs. tt)
-    (λ c κs. tt)
-    (λ c. search needs)
-    (λ c. search needs)
-    (λ c κs. tt)
-    (λ c κs. tt)
-    (λ c. search needs)
-    (λ c. search needs)
-    (λ c. search needs)
-    (λ c. search needs)
+    let nowhere = no-step eight s i (omega arith) (omega arith) (ap (holdingAt (s .entries)) same) (d .is-unused .ensures) (c .if1 .taken) in
+    (followed-more eight s (loop .loop .inv .0) (omega arith) nowhere, search needs))
+    (λ c. search needs) _ _ (λ c. search needs) (λ c. search needs) _ _ _ (λ c. search needs) (λ c. search needs) _ _
+    (λ c. search needs) (λ c. search needs) (λ c. search needs) (λ c. search needs)
     (λ c.
     let g = c .before .before .before .before in
     let named = g .before .before .before .before in

@@ -18,18 +18,11 @@ abbrev μ-loop : tie.MeasureT-loop
 pub reached-spec : {M : Type 1} → statement M
 reached-spec =
     tie.close
-    (tie.spec
-    Inv-loop
-    μ-loop
+    (tie.spec Inv-loop μ-loop
     (λ c. walk-start _ _ _ _)
-    (λ c κs. tt)
+    _
     (λ c. walk-met (c .before .before .before .loop .inv) (c .before .before .loop-test .taken) (c .before .is-at .ensures) (c .if1 .taken))
-    (λ c κs. tt)
-    (λ c. search needs)
-    (λ c. search needs)
-    (λ c κs. tt)
-    (λ c. search needs)
-    (λ c. search needs)
+    _ (λ c. search needs) (λ c. search needs) _ (λ c. search needs) (λ c. search needs)
     (λ c.
     let d = c .before .before .before in
     walk-on (d .before .before .before .loop .inv) (d .before .before .loop-test .taken) (d .before .is-at .ensures) (d .if1 .left)

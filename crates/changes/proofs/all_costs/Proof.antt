@@ -23,25 +23,20 @@ pub all-costs-spec : {M : Type 1} → statement M
 unfolding B
 all-costs-spec =
     tie.close
-    (tie.spec
-    Inv-loop
-    μ-loop
-    (λ c κs. tt)
+    (tie.spec Inv-loop μ-loop _
     (λ c. add-start _ _)
-    (λ c. search needs)
-    (λ c. search needs)
-    (λ c κs. tt)
+    (λ c. search needs) (λ c. search needs) _
     (λ c.
     let d = c .before .before .before in
     let live = d .before .live-entries .result in
     let few : live ≤ 255 = omega arith in
     let message = messageAt (d .before .before .args .t2) in
     omega (arith, d .loop .inv .sofar, sum-small live few message (d .loop .k), c .costs .ensures, costs-small live few (message (d .loop .k))))
-    (λ c. search needs)
-    (λ c. search needs)
+    (λ c. search needs) (λ c. search needs)
     (λ c. add-step (c .before .before .before .loop .inv) (omega arith) (c .costs .ensures) (omega arith))
     (λ c t e f.
     let d = c .before .before in
     let slots = d .before .args .t2 in
     let l : length slots ≡ 64 = d .before .good .1 .0 .1 .0 .1 in
-    rw (← d .live-entries .ensures t e, f, total-below (λ x. costs (d .live-entries .result) (x .message)) slots (record { message = Empty }), l) (add-end (c .before .loop .inv) (c .loop-test .left))))
+    let summed = total-below (λ x. costs (d .live-entries .result) (x .message)) slots (record { message = Empty }) in
+    rw (← d .live-entries .ensures t e, f, summed, l) (add-end (c .before .loop .inv) (c .loop-test .left))))

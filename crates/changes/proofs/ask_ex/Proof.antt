@@ -4,9 +4,6 @@ use Rattle.changes.proofs.ask_ex.Tie as tie
 
 pub ask-ex-spec : {M : Type 1} → statement M
 ask-ex-spec =
-    tie.close
-    (tie.spec
-    (λ c κs. tt)
-    (λ c. rw (c .unchanged .ensures, c .before .if1 .taken))
-    (λ c κs. tt)
-    (λ c. rw (c .with-cell-and-message .ensures, c .before .if1 .left)))
+    let returns : tie.Need-returns = λ c. rw (c .unchanged .ensures, c .before .if1 .taken) in
+    let returns-2 : tie.Need-returns-2 = λ c. rw (c .with-cell-and-message .ensures, c .before .if1 .left) in
+    tie.close (search tie.spec)

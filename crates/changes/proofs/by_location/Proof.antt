@@ -4,8 +4,5 @@ use Rattle.changes.proofs.by_location.Tie as tie
 
 pub by-location-spec : {M : Type 1} → statement M
 by-location-spec =
-    tie.close
-    (tie.spec
-    (λ c κs. tt)
-    (λ c κs. tt)
-    (λ c h. rw (c .with-entry-and-message .ensures, c .before .gains .ensures h)))
+    let returns : tie.Need-returns = λ c h. rw (c .with-entry-and-message .ensures, c .before .gains .ensures h) in
+    tie.close (search tie.spec)

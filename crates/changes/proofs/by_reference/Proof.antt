@@ -4,9 +4,5 @@ use Rattle.changes.proofs.by_reference.Tie as tie
 
 pub by-reference-spec : {M : Type 1} → statement M
 by-reference-spec =
-    tie.close
-    (tie.spec
-    (λ c κs. tt)
-    (λ c κs. tt)
-    (λ c κs. tt)
-    (λ c. rw (c .with-cell-and-message .ensures, c .before .sends .ensures, c .before .before .keeps .ensures)))
+    let returns : tie.Need-returns = λ c. rw (c .with-cell-and-message .ensures, c .before .sends .ensures, c .before .before .keeps .ensures) in
+    tie.close (search tie.spec)

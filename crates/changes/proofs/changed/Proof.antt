@@ -6,18 +6,8 @@ use Rattle.changes.proofs.changed.Tie as tie
 pub changed-spec : {M : Type 1} → statement M
 changed-spec =
     tie.close
-    (tie.spec
-    (λ c. search needs)
-    (λ c. search needs)
-    (λ c κs. tt)
-    (λ c. search needs)
-    (λ c κs. tt)
-    (λ c. search needs)
-    (λ c κs. tt)
-    (λ c κs. tt)
-    (λ c. search needs)
-    (λ c κs. tt)
-    (λ c κs. tt)
+    (tie.spec (λ c. search needs) (λ c. search needs) _ (λ c. search needs) _ (λ c. search needs) _ _
+    (λ c. search needs) _ _
     (λ c. rw (c .enum-told .given .1))
     (λ c. rw (c .put-cell .ensures, c .before .before .d .given .1))
     (λ c. rw (c .put-message .ensures, c .before .before .d2 .given .1))

@@ -7,10 +7,7 @@ use Rattle.changes.proofs.gains.Tie as tie
 pub gains-spec : {M : Type 1} → statement M
 gains-spec =
     tie.close
-    (tie.spec
-    (λ c. search needs)
-    (λ c. search needs)
-    (λ c κs. tt)
+    (tie.spec (λ c. search needs) (λ c. search needs) _
     (λ c h. rw (c .enum-told .given .1))
     (λ c h.
     let is = c .before .before .x .given .1 in

@@ -7,8 +7,6 @@ use Rattle.changes.proofs.keeps.Tie as tie
 pub keeps-spec : {M : Type 1} → statement M
 keeps-spec =
     tie.close
-    (tie.spec
-    (λ c. search needs)
-    (λ c. search needs)
+    (tie.spec (λ c. search needs) (λ c. search needs)
     (λ c. rw (c .before .k .given .1))
     (λ c. not-ex _ (c .before .args .k) (c .match .keys2)))

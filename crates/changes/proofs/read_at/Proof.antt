@@ -6,17 +6,8 @@ use Rattle.changes.proofs.read_at.Tie as tie
 pub read-at-spec : {M : Type 1} → statement M
 read-at-spec =
     tie.close
-    (tie.spec
-    (λ c. search needs)
-    (λ c κs. tt)
-    (λ c. search needs)
-    (λ c κs. tt)
-    (λ c. search needs)
-    (λ c κs. tt)
-    (λ c. search needs)
-    (λ c κs. tt)
-    (λ c. search needs)
-    (λ c κs. tt)
+    (tie.spec (λ c. search needs) _ (λ c. search needs) _ (λ c. search needs) _ (λ c. search needs) _
+    (λ c. search needs) _
     (λ c. rw (c .unchanged .ensures, c .before .enum-told .given .1))
     (λ c. rw (c .unchanged2 .ensures, c .before .enum-told2 .given .1))
     (λ c. rw (c .unchanged3 .ensures, c .before .before .k .given .1))

@@ -4,7 +4,5 @@ use Rattle.changes.proofs.replied.Tie as tie
 
 pub replied-spec : {M : Type 1} → statement M
 replied-spec =
-    tie.close
-    (tie.spec
-    (λ c κs. tt)
-    (λ c. rw (c .changed .ensures)))
+    let returns : tie.Need-returns = λ c. rw (c .changed .ensures) in
+    tie.close (search tie.spec)

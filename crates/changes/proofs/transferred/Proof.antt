@@ -4,8 +4,5 @@ use Rattle.changes.proofs.transferred.Tie as tie
 
 pub transferred-spec : {M : Type 1} → statement M
 transferred-spec =
-    tie.close
-    (tie.spec
-    (λ c κs. tt)
-    (λ c κs. tt)
-    (λ c. rw (c .with-cell-and-message .ensures, c .before .sends-whole .ensures)))
+    let returns : tie.Need-returns = λ c. rw (c .with-cell-and-message .ensures, c .before .sends-whole .ensures) in
+    tie.close (search tie.spec)

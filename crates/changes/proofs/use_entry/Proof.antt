@@ -4,8 +4,5 @@ use Rattle.changes.proofs.use_entry.Tie as tie
 
 pub use-entry-spec : {M : Type 1} → statement M
 use-entry-spec =
-    tie.close
-    (tie.spec
-    (λ c κs. tt)
-    (λ c κs. tt)
-    (λ c t e. rw (c .entry-at .ensures t e, c .before .entry-to-use .ensures t e)))
+    let returns : tie.Need-returns = λ c t e. rw (c .entry-at .ensures t e, c .before .entry-to-use .ensures t e) in
+    tie.close (search tie.spec)

@@ -11,11 +11,10 @@ use Rattle.endrusp.proofs.answers.Tie as tie
 pub answers-spec : {M : Type 1} → statement M
 answers-spec =
     tie.close
-    (tie.spec
-    (λ c κs. tt)
-    (λ c. search needs)
-    (λ c. search needs)
-    (λ c. search needs)
+    (tie.spec _ (λ c. search needs) (λ c. search needs) (λ c. search needs)
     (λ c. (omega arith, refl))
     (λ c. search needs)
-    (λ c. let l = subst (λ (r : Ran). Within r (c .before .before .before .before .before .run .last .1 .0)) (c .before .k .given .1) (c .before .before .before .before .before .run .ensures .1 .1) in (l, sym (length-take-le _ _ l))))
+    (λ c.
+    let ran = c .before .before .before .before .before .run in
+    let l = subst (λ (r : Ran). Within r (ran .last .1 .0)) (c .before .k .given .1) (ran .ensures .1 .1) in
+    (l, sym (length-take-le _ _ l))))

@@ -17,4 +17,8 @@ returns-2 c =
 
 pub endrusp-run-spec : {M : Type 1} → statement M
 endrusp-run-spec =
-    tie.close (tie.spec (λ c κs. tt) (λ c. search needs) (λ c. search needs) (λ c. search needs) returns (λ c. search needs) returns-2)
+    let enum-known-n : tie.Need-enum-known-n = λ c. search needs in
+    let enum-told : tie.Need-enum-told = λ c. search needs in
+    let same-length : tie.Need-same-length = λ c. search needs in
+    let same-length-2 : tie.Need-same-length-2 = λ c. search needs in
+    tie.close (search (tie.spec, returns, returns-2))

@@ -6,9 +6,5 @@ use Rattle.frames.proofs.answer_line.Tie as tie
 
 pub answer-line-spec : {M : Type 1} → statement M
 answer-line-spec =
-    tie.close
-    (tie.spec
-    (λ c κs. tt)
-    (λ c κs. tt)
-    (λ c κs. tt)
-    (λ c. c .line-of .ensures ∙ ap₂ lineOf (c .before .before .code-of .ensures) (c .before .value-of .ensures)))
+    let returns : tie.Need-returns = λ c. c .line-of .ensures ∙ ap₂ lineOf (c .before .before .code-of .ensures) (c .before .value-of .ensures) in
+    tie.close (search tie.spec)

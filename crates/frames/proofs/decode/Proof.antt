@@ -12,12 +12,10 @@ decode-spec =
     tie.close
     (tie.spec
     (λ c. simp (ne-eqb _ _ (c .if1 .taken)))
-    (λ c κs. search needs)
-    (λ c. search needs)
-    (λ c. search needs)
+    (λ c κs. search needs) (λ c. search needs) (λ c. search needs)
     (λ c. simp (eq-eqb _ _ (c .before .before .before .if1 .left), sym (c .before .before .parse .ensures) ∙ c .enum-told .given .1))
-    (λ c κs. search needs)
-    (λ c κs. search needs)
+    (λ c κs. search needs) (λ c κs. search needs)
     (λ c.
-    simp (eq-eqb _ _ (c .before .before .before .before .before .before .if1 .left), sym (c .before .before .before .before .before .parse .ensures) ∙ c .before .before .before .v .given .1)
+    let told = c .before .before .before in
+    simp (eq-eqb _ _ (told .before .before .before .if1 .left), sym (told .before .before .parse .ensures) ∙ told .v .given .1)
     (c .frame-of .ensures ∙ ap frameOf (c .before .fields-of .ensures))))

@@ -7,8 +7,7 @@ use Rattle.frames.proofs.digit_in.Tie as tie
 pub digit-in-spec : {M : Type 1} → statement M
 digit-in-spec =
     tie.close
-    (tie.spec
-    (λ c. search needs)
+    (tie.spec (λ c. search needs)
     (λ c. search digits)
     (λ c. search digits)
     (λ c. search digits)

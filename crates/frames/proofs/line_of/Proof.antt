@@ -7,16 +7,5 @@ use Rattle.frames.proofs.line_of.Tie as tie
 pub line-of-spec : {M : Type 1} → statement M
 unfolding lineOf
 line-of-spec =
-    tie.close
-    (tie.spec
-    (λ c κs. tt)
-    (λ c κs. tt)
-    (λ c κs. tt)
-    (λ c κs. tt)
-    (λ c κs. tt)
-    (λ c κs. tt)
-    (λ c κs. tt)
-    (λ c κs. tt)
-    (λ c κs. tt)
-    (λ c κs. tt)
-    (λ c. simp div-one (cc)))
+    let returns : tie.Need-returns = λ c. simp div-one (cc) in
+    tie.close (search tie.spec)

@@ -7,9 +7,6 @@ use Rattle.frames.proofs.low_digit.Tie as tie
 pub low-digit-spec : {M : Type 1} → statement M
 low-digit-spec =
     tie.close
-    (tie.spec
-    (λ c. search needs)
-    (λ c. search needs)
-    (λ c. search needs)
+    (tie.spec (λ c. search needs) (λ c. search needs) (λ c. search needs)
     (λ c. simp (lt-ltb _ _ (c .if1 .taken)))
     (λ c. simp (le-ltb _ _ (c .if1 .left))))

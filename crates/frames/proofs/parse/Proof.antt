@@ -14,9 +14,7 @@ abbrev μ-loop : tie.MeasureT-loop
 pub parse-spec : {M : Type 1} → statement M
 parse-spec =
     tie.close
-    (tie.spec
-    Inv-loop
-    μ-loop
+    (tie.spec Inv-loop μ-loop
     (λ c. search parses)
     (λ c. search parses)
     (λ c κs. search parses)

@@ -6,17 +6,10 @@ use Rattle.frames.proofs.unused_are_zero.Tie as tie
 
 pub unused-are-zero-spec : {M : Type 1} → statement M
 unused-are-zero-spec =
-    tie.close
-    (tie.spec
-    (λ c κs. tt)
-    (λ c κs. tt)
-    (λ c κs. tt)
-    (λ c κs. tt)
-    (λ c κs. tt)
-    (λ c κs. tt)
-    (λ c κs. tt)
-    (λ c.
-    c .both3 .ensures
-    ∙ ap₂ _&&_
-    (c .before .before .both .ensures ∙ ap₂ _&&_ (c .before .before .before .before .before .before .before .before .before .either .ensures) (c .before .before .before .before .before .before .before .either2 .ensures))
-    (c .before .both2 .ensures ∙ ap₂ _&&_ (c .before .before .before .before .before .either3 .ensures) (c .before .before .before .either4 .ensures))))
+    let returns : tie.Need-returns = λ c.
+    let later = c .before .before .before in
+    let sooner = later .before .before .before .before in
+    let first = c .before .before .both .ensures ∙ ap₂ _&&_ (sooner .before .before .either .ensures) (sooner .either2 .ensures) in
+    let last = c .before .both2 .ensures ∙ ap₂ _&&_ (later .before .before .either3 .ensures) (later .either4 .ensures) in
+    c .both3 .ensures ∙ ap₂ _&&_ first last in
+    tie.close (search tie.spec)

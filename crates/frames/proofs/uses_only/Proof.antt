@@ -5,8 +5,6 @@ use Rattle.frames.proofs.uses_only.Tie as tie
 
 pub uses-only-spec : {M : Type 1} → statement M
 uses-only-spec =
-    tie.close
-    (tie.spec
-    (λ c κs. tt)
-    (λ c. rw (sym (c .before .unused-are-zero .ensures) ∙ c .if1 .taken))
-    (λ c. rw (sym (c .before .unused-are-zero .ensures) ∙ c .if1 .left)))
+    let returns : tie.Need-returns = λ c. rw (sym (c .before .unused-are-zero .ensures) ∙ c .if1 .taken) in
+    let returns-2 : tie.Need-returns-2 = λ c. rw (sym (c .before .unused-are-zero .ensures) ∙ c .if1 .left) in
+    tie.close (search tie.spec)

@@ -20,18 +20,9 @@ pub booked-spec : {M : Type 1} → statement M
 unfolding booked
 booked-spec =
     tie.close
-    (tie.spec
-    Inv-loop
-    μ-loop
-    (λ c. search loops)
-    (λ c. search loops)
-    (λ c. search loops)
-    (λ c κs. tt)
-    (λ c κs. tt)
+    (tie.spec Inv-loop μ-loop (λ c. search loops) (λ c. search loops) (λ c. search loops) _ _
     (λ c. omega (arith, bit-small (c .before .goes-to .result) (c .bit-of .ensures)))
-    (λ c. search loops)
-    (λ c. search loops)
-    (λ c. search loops)
+    (λ c. search loops) (λ c. search loops) (λ c. search loops)
     (λ c t e.
     let a = c .before .before .args in
     let l : length (a .t1) ≡ 64 = c .before .before .good .0 .1 .0 .1 in

@@ -12,8 +12,5 @@ entry-at-spec =
     (tie.spec
     (λ c t e. rw (le-ltb _ _ (c .if1 .taken)))
     (λ c t e. rw (lt-ltb _ _ (c .before .if1 .left), le-ltb _ _ (c .if2 .taken)))
-    (λ c. search needs)
-    (λ c. search needs)
-    (λ c. search needs)
-    (λ c. search needs)
+    (λ c. search needs) (λ c. search needs) (λ c. search needs) (λ c. search needs)
     (λ c t e. rw (lt-ltb _ _ (c .before .before .if1 .left), lt-ltb _ _ (c .before .if2 .left), e)))

@@ -6,7 +6,5 @@ use Rattle.lookups.proofs.entry_of.Tie as tie
 pub entry-of-spec : {M : Type 1} → statement M
 unfolding entryOf
 entry-of-spec =
-    tie.close
-    (tie.spec
-    (λ c κs. tt)
-    (λ c t e. rw (c .lowest-entry .ensures t e)))
+    let returns : tie.Need-returns = λ c t e. rw (c .lowest-entry .ensures t e) in
+    tie.close (search tie.spec)

@@ -6,7 +6,5 @@ use Rattle.lookups.proofs.ex_naming.Tie as tie
 pub ex-naming-spec : {M : Type 1} → statement M
 unfolding exNaming
 ex-naming-spec =
-    tie.close
-    (tie.spec
-    (λ c κs. tt)
-    (λ c t e. rw (c .lowest-cell .ensures t e)))
+    let returns : tie.Need-returns = λ c t e. rw (c .lowest-cell .ensures t e) in
+    tie.close (search tie.spec)

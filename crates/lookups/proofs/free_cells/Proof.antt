@@ -19,20 +19,10 @@ pub free-cells-spec : {M : Type 1} → statement M
 unfolding freeCells
 free-cells-spec =
     tie.close
-    (tie.spec
-    Inv-loop
-    μ-loop
+    (tie.spec Inv-loop μ-loop
     (λ c t e. cells-count-past eight t _ isFree (c .if1 .taken))
-    (λ c. search loops)
-    (λ c. search loops)
-    (λ c. search loops)
-    (λ c. search loops)
-    (λ c. search loops)
-    (λ c. search loops)
-    (λ c κs. tt)
-    (λ c κs. tt)
+    (λ c. search loops) (λ c. search loops) (λ c. search loops) (λ c. search loops) (λ c. search loops)
+    (λ c. search loops) _ _
     (λ c. omega (arith, bit-small (c .before .is-free .result) (c .bit-of .ensures)))
-    (λ c. search loops)
-    (λ c. search loops)
-    (λ c. search loops)
+    (λ c. search loops) (λ c. search loops) (λ c. search loops)
     (λ c t e. rw (← cells-count eight t _ isFree (c .before .loop .inv .0), e) (count-end (c .before .loop .inv .1) (c .loop-test .left))))

@@ -6,7 +6,5 @@ use Rattle.lookups.proofs.is_exported.Tie as tie
 pub is-exported-spec : {M : Type 1} → statement M
 unfolding exported
 is-exported-spec =
-    tie.close
-    (tie.spec
-    (λ c κs. tt)
-    (λ c t e. rw (c .entry-of .ensures t e)))
+    let returns : tie.Need-returns = λ c t e. rw (c .entry-of .ensures t e) in
+    tie.close (search tie.spec)

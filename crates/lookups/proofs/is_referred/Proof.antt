@@ -6,7 +6,5 @@ use Rattle.lookups.proofs.is_referred.Tie as tie
 pub is-referred-spec : {M : Type 1} → statement M
 unfolding referred
 is-referred-spec =
-    tie.close
-    (tie.spec
-    (λ c κs. tt)
-    (λ c t e. rw (c .lowest-cell .ensures t e)))
+    let returns : tie.Need-returns = λ c t e. rw (c .lowest-cell .ensures t e) in
+    tie.close (search tie.spec)

@@ -8,15 +8,8 @@ pub is-safe-spec : {M : Type 1} → statement M
 unfolding safe
 is-safe-spec =
     tie.close
-    (tie.spec
-    (λ c. search needs)
-    (λ c. search needs)
-    (λ c. search needs)
-    (λ c. search needs)
-    (λ c. search needs)
-    (λ c κs. tt)
-    (λ c κs. tt)
-    (λ c κs. tt)
+    (tie.spec (λ c. search needs) (λ c. search needs) (λ c. search needs) (λ c. search needs) (λ c. search needs) _ _
+    _
     (λ c t e. rw (c .enum-told .given .1))
     (λ c t e. rw (c .enum-told2 .given .1))
     (λ c t e. rw (c .enum-told3 .given .1))

@@ -6,13 +6,6 @@ use Rattle.lookups.proofs.is_sought.Tie as tie
 pub is-sought-spec : {M : Type 1} → statement M
 is-sought-spec =
     tie.close
-    (tie.spec
-    (λ c. search needs)
-    (λ c κs. tt)
-    (λ c. search needs)
-    (λ c κs. tt)
-    (λ c. search needs)
-    (λ c κs. tt)
-    (λ c. search needs)
+    (tie.spec (λ c. search needs) _ (λ c. search needs) _ (λ c. search needs) _ (λ c. search needs)
     (λ c. rw (c .ref-names .ensures, c .before .before .q .given .1))
     (λ c. rw (c .ex-names .ensures, c .before .before .q2 .given .1)))

@@ -19,21 +19,15 @@ abbrev μ-loop : tie.MeasureT-loop
 pub lowest-cell-spec : {M : Type 1} → statement M
 lowest-cell-spec =
     tie.close
-    (tie.spec
-    Inv-loop
-    μ-loop
-    (λ c κs. tt)
-    (λ c t e. rw (← cells-past eight t _ (isSought (c .before .before .before .args .q)) (c .before .before .if1 .taken), ← c .before .is-sought .ensures, c .if2 .taken))
-    (λ c t e. rw (← cells-past eight t _ (isSought (c .before .before .before .args .q)) (c .before .before .if1 .taken), ← c .before .is-sought .ensures, c .if2 .left))
+    (tie.spec Inv-loop μ-loop _
+    (λ c t e. rw (← cells-past eight t _ (isSought (c .before .before .before .args .q)) (c .before .before .if1 .taken))
+    (rw (← c .before .is-sought .ensures, c .if2 .taken)))
+    (λ c t e. rw (← cells-past eight t _ (isSought (c .before .before .before .args .q)) (c .before .before .if1 .taken))
+    (rw (← c .before .is-sought .ensures, c .if2 .left)))
     (λ c. (search needs, seek-start _ _))
-    (λ c. search loops)
-    (λ c. search loops)
-    (λ c. search loops)
-    (λ c. search loops)
-    (λ c. search loops)
-    (λ c κs. tt)
-    (λ c t e. rw (← cells-found eight t _ (isSought (c .before .before .before .before .before .before .args .q)) (c .before .before .before .before .loop .inv .0), e) (search loops))
-    (λ c. search loops)
-    (λ c. search loops)
-    (λ c. search loops)
+    (λ c. search loops) (λ c. search loops) (λ c. search loops) (λ c. search loops) (λ c. search loops) _
+    (λ c t e.
+    let loop = c .before .before .before .before in
+    rw (← cells-found eight t _ (isSought (loop .before .before .args .q)) (loop .loop .inv .0), e) (search loops))
+    (λ c. search loops) (λ c. search loops) (λ c. search loops)
     (λ c t e. rw (← cells-found eight t _ (isSought (c .before .before .before .args .q)) (c .before .loop .inv .0), e) (search loops)))

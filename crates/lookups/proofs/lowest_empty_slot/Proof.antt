@@ -17,16 +17,7 @@ pub lowest-empty-slot-spec : {M : Type 1} → statement M
 unfolding lowestEmptySlot
 lowest-empty-slot-spec =
     tie.close
-    (tie.spec
-    Inv-loop
-    μ-loop
-    (λ c. search loops)
-    (λ c. search loops)
-    (λ c. search loops)
-    (λ c. search loops)
-    (λ c κs. tt)
+    (tie.spec Inv-loop μ-loop (λ c. search loops) (λ c. search loops) (λ c. search loops) (λ c. search loops) _
     (λ c t e. rw e (search loops))
-    (λ c. search loops)
-    (λ c. search loops)
-    (λ c. search loops)
+    (λ c. search loops) (λ c. search loops) (λ c. search loops)
     (λ c t e. rw e (search loops)))

@@ -6,7 +6,5 @@ use Rattle.lookups.proofs.lowest_free_cell.Tie as tie
 pub lowest-free-cell-spec : {M : Type 1} → statement M
 unfolding lowestFreeCell
 lowest-free-cell-spec =
-    tie.close
-    (tie.spec
-    (λ c κs. tt)
-    (λ c t e. rw (c .lowest-cell .ensures t e)))
+    let returns : tie.Need-returns = λ c t e. rw (c .lowest-cell .ensures t e) in
+    tie.close (search tie.spec)

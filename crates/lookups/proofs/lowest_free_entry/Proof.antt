@@ -6,7 +6,5 @@ use Rattle.lookups.proofs.lowest_free_entry.Tie as tie
 pub lowest-free-entry-spec : {M : Type 1} → statement M
 unfolding lowestFreeEntry
 lowest-free-entry-spec =
-    tie.close
-    (tie.spec
-    (λ c κs. tt)
-    (λ c t e. rw (c .lowest-entry .ensures t e)))
+    let returns : tie.Need-returns = λ c t e. rw (c .lowest-entry .ensures t e) in
+    tie.close (search tie.spec)

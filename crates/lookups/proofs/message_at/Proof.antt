@@ -15,6 +15,5 @@ message-at-spec =
     let a = c .before .args in
     let l : length (a .t1) ≡ 64 = c .before .good .0 .1 .0 .1 in
     message-past t (a .k) (rw e (omega arith)))
-    (λ c. search needs)
-    (λ c. search needs)
+    (λ c. search needs) (λ c. search needs)
     (λ c t e. rw e))

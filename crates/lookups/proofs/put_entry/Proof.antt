@@ -12,8 +12,5 @@ put-entry-spec =
     (tie.spec
     (λ c. rw (le-ltb _ _ (c .if1 .taken)))
     (λ c. rw (lt-ltb _ _ (c .before .if1 .left), le-ltb _ _ (c .if2 .taken)))
-    (λ c. search needs)
-    (λ c. search needs)
-    (λ c. search needs)
-    (λ c. search needs)
+    (λ c. search needs) (λ c. search needs) (λ c. search needs) (λ c. search needs)
     (λ c. rw (lt-ltb _ _ (c .before .if1 .left), lt-ltb _ _ (c .if2 .left))))

@@ -18,6 +18,4 @@ put-message-spec =
     let a = c .before .args in
     let l : length (a .s .slots) ≡ 64 = simp length-map at (c .before .good .0 .1 .1 .1 .1 .1 .0 .1 .0 .1) in
     ap state (put-message-past (tables (a .s)) (a .k) (a .m) (omega arith)))
-    (λ c. search needs)
-    (λ c. search needs)
-    (λ c. search needs))
+    (λ c. search needs) (λ c. search needs) (λ c. search needs))

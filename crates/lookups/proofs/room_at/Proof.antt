@@ -4,9 +4,6 @@ use Rattle.lookups.proofs.room_at.Tie as tie
 
 pub room-at-spec : {M : Type 1} → statement M
 room-at-spec =
-    tie.close
-    (tie.spec
-    (λ c κs. tt)
-    (λ c κs. tt)
-    (λ c κs. tt)
-    (λ c t e f. rw (c .lowest-empty-slot .ensures t f, c .before .booked .ensures t f, c .before .before .free-cells .ensures t e)))
+    let returns : tie.Need-returns = λ c t e f.
+    rw (c .lowest-empty-slot .ensures t f, c .before .booked .ensures t f, c .before .before .free-cells .ensures t e) in
+    tie.close (search tie.spec)

@@ -6,10 +6,7 @@ use Rattle.names.proofs.is_safe.Tie as tie
 
 pub is-safe-spec : {M : Type 1} → statement M
 is-safe-spec =
-    tie.close
-    (tie.spec
-    (λ c. search needs)
-    (λ c κs. tt)
-    (λ c κs. tt)
-    (λ c. rw (c .both .ensures, c .before .is-tainted .ensures, c .before .before .before .k .given .1))
-    (λ c. not-ex _ (c .before .args .k) (c .match .keys2)))
+    let enum-known-k : tie.Need-enum-known-k = λ c. search needs in
+    let returns : tie.Need-returns = λ c. rw (c .both .ensures, c .before .is-tainted .ensures, c .before .before .before .k .given .1) in
+    let returns-2 : tie.Need-returns-2 = λ c. not-ex _ (c .before .args .k) (c .match .keys2) in
+    tie.close (search tie.spec)

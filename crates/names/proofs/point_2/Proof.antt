@@ -31,47 +31,23 @@ pub point-2-spec : {M : Type 1} → statement M
 unfolding point2
 point-2-spec =
     tie.close
-    (tie.spec
-    Inv-loop2
-    μ-loop2
-    Inv-loop
-    μ-loop
+    (tie.spec Inv-loop2 μ-loop2 Inv-loop μ-loop
     (λ c. pass-start _ _)
-    (λ c. search needs)
-    (λ c. search needs)
-    (λ c κs. tt)
-    (λ c. search needs)
-    (λ c. search needs)
+    (λ c. search needs) (λ c. search needs) _ (λ c. search needs) (λ c. search needs)
     (λ c.
     let d = c .before in
     let loop = d .before .before .before in
-    pass-over (loop .loop .inv) (d .before .before .loop-test .taken) (nothing-named eight _ _ 0 (kindAt (loop .before .args .t1 .cells) (loop .loop .i)) (d .names-nothing .ensures) (c .if1 .taken)))
-    (λ c. search needs)
-    (λ c κs. tt)
-    (λ c κs. tt)
-    (λ c. search needs)
-    (λ c. search needs)
-    (λ c κs. tt)
-    (λ c κs. tt)
-    (λ c. search needs)
-    (λ c. search needs)
+    pass-over (loop .loop .inv) (d .before .before .loop-test .taken)
+    (nothing-named eight _ _ 0 (kindAt (loop .before .args .t1 .cells) (loop .loop .i)) (d .names-nothing .ensures) (c .if1 .taken)))
+    (λ c. search needs) _ _ (λ c. search needs) (λ c. search needs) _ _ (λ c. search needs) (λ c. search needs)
     (λ c. count-start _ _)
-    (λ c. search needs)
-    (λ c. search needs)
-    (λ c. search needs)
-    (λ c. search needs)
-    (λ c κs. tt)
-    (λ c κs. tt)
+    (λ c. search needs) (λ c. search needs) (λ c. search needs) (λ c. search needs) _ _
     (λ c. omega (arith, bit-small (c .before .names-place .result) (c .bit-of .ensures), c .before .before .before .before .loop2 .inv .small))
-    (λ c. search needs)
-    (λ c. search needs)
-    (λ c. count-step (c .before .before .before .before .loop2 .inv) (c .before .before .before .loop2-test .taken) (c .before .names-place .ensures) (c .bit-of .ensures))
-    (λ c κs. tt)
-    (λ c κs. tt)
-    (λ c κs. tt)
-    (λ c κs. tt)
-    (λ c. search needs)
-    (λ c. search needs)
+    (λ c. search needs) (λ c. search needs)
+    (λ c.
+    let within = c .before .before .before in
+    count-step (within .before .loop2 .inv) (within .loop2-test .taken) (c .before .names-place .ensures) (c .bit-of .ensures))
+    _ _ _ _ (λ c. search needs) (λ c. search needs)
     (λ c.
     let d = c .before in
     let e = d .before .before .before in

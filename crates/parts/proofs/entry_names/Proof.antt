@@ -6,8 +6,5 @@ use Rattle.parts.proofs.entry_names.Tie as tie
 pub entry-names-spec : {M : Type 1} → statement M
 entry-names-spec =
     tie.close
-    (tie.spec
-    (λ c. search needs)
-    (λ c. search needs)
-    (λ c. search needs)
+    (tie.spec (λ c. search needs) (λ c. search needs) (λ c. search needs)
     (λ c. rw (c .before .x .given .1)))

@@ -7,8 +7,6 @@ use Rattle.parts.proofs.ex_names.Tie as tie
 pub ex-names-spec : {M : Type 1} → statement M
 ex-names-spec =
     tie.close
-    (tie.spec
-    (λ c. search needs)
-    (λ c κs. search needs)
+    (tie.spec (λ c. search needs) (λ c κs. search needs)
     (λ c. rw (c .both .ensures, c .before .before .k .given .1))
     (λ c. not-ex _ (c .before .args .k) (c .match .keys2)))

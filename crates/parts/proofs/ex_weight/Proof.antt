@@ -7,7 +7,6 @@ use Rattle.parts.proofs.ex_weight.Tie as tie
 pub ex-weight-spec : {M : Type 1} → statement M
 ex-weight-spec =
     tie.close
-    (tie.spec
-    (λ c. search needs)
+    (tie.spec (λ c. search needs)
     (λ c. rw (c .before .k .given .1))
     (λ c. not-ex _ (c .before .args .k) (c .match .keys2)))

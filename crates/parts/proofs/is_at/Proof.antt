@@ -6,9 +6,5 @@ use Rattle.parts.proofs.is_at.Tie as tie
 pub is-at-spec : {M : Type 1} → statement M
 is-at-spec =
     tie.close
-    (tie.spec
-    (λ c. search needs)
-    (λ c. search needs)
-    (λ c κs. search needs)
-    (λ c. search needs)
+    (tie.spec (λ c. search needs) (λ c. search needs) (λ c κs. search needs) (λ c. search needs)
     (λ c. rw (c .both .ensures, c .before .before .p .given .1)))

@@ -7,8 +7,6 @@ use Rattle.parts.proofs.is_reading.Tie as tie
 pub is-reading-spec : {M : Type 1} → statement M
 is-reading-spec =
     tie.close
-    (tie.spec
-    (λ c. search needs)
-    (λ c κs. search needs)
+    (tie.spec (λ c. search needs) (λ c κs. search needs)
     (λ c. rw (c .reading-of .ensures, c .before .before .k .given .1))
     (λ c. not-ex _ (c .before .args .k) (c .match .keys2)))

@@ -12,6 +12,5 @@ cell-index-spec =
     (tie.spec
     (λ c. (rw (le-ltb _ _ (c .if1 .taken)), search needs))
     (λ c. (rw (lt-ltb _ _ (c .before .if1 .left), le-ltb _ _ (c .if2 .taken)), search needs))
-    (λ c. search needs)
-    (λ c. search needs)
+    (λ c. search needs) (λ c. search needs)
     (λ c. (rw (lt-ltb _ _ (c .before .if1 .left), lt-ltb _ _ (c .if2 .left)), search needs)))

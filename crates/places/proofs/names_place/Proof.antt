@@ -6,9 +6,5 @@ use Rattle.places.proofs.names_place.Tie as tie
 pub names-place-spec : {M : Type 1} → statement M
 names-place-spec =
     tie.close
-    (tie.spec
-    (λ c. search needs)
-    (λ c. search needs)
-    (λ c κs. tt)
-    (λ c. search needs)
+    (tie.spec (λ c. search needs) (λ c. search needs) _ (λ c. search needs)
     (λ c. rw (c .before .before .p .given .1) (c .ex-names .ensures)))

@@ -8,9 +8,6 @@ pub place-seen-spec : {M : Type 1} → statement M
 unfolding placeSeen
 place-seen-spec =
     tie.close
-    (tie.spec
-    (λ c. search needs)
-    (λ c. search needs)
-    (λ c κs. tt)
+    (tie.spec (λ c. search needs) (λ c. search needs) _
     (λ c. rw (c .enum-told .given .1))
     (λ c. rw (c .before .before .p .given .1) (c .entry-seen .ensures)))

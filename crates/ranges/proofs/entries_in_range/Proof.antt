@@ -21,33 +21,24 @@ abbrev μ-loop : tie.MeasureT-loop
 pub entries-in-range-spec : {M : Type 1} → statement M
 entries-in-range-spec =
     tie.close
-    (tie.spec
-    Inv-loop
-    μ-loop
+    (tie.spec Inv-loop μ-loop
     (λ c s h. pass-start _ _)
-    (λ c. search needs)
-    (λ c. search needs)
-    (λ c κs. tt)
-    (λ c. search needs)
-    (λ c. search needs)
+    (λ c. search needs) (λ c. search needs) _ (λ c. search needs) (λ c. search needs)
     (λ c s h.
     let d = c .before in
     let loop = d .before .before .before in
     let i = loop .loop .i in
-    pass-over (loop .loop .inv s h) (d .before .before .loop-test .taken) (unused-in-range eight s (i / 16) (i % 16) (holdingAt (loop .before .args .t2) i) (d .is-unused .ensures) (c .if1 .taken)))
-    (λ c. search needs)
-    (λ c κs. tt)
-    (λ c κs. tt)
-    (λ c κs. tt)
-    (λ c. search needs)
-    (λ c. search needs)
+    pass-over (loop .loop .inv s h) (d .before .before .loop-test .taken)
+    (unused-in-range eight s (i / 16) (i % 16) (holdingAt (loop .before .args .t2) i) (d .is-unused .ensures) (c .if1 .taken)))
+    (λ c. search needs) _ _ _ (λ c. search needs) (λ c. search needs)
     (λ c s h.
     let d = c .before in
     let part = d .before .before in
     let loop = part .before .before .before .before in
     let i = loop .loop .i in
+    let inside = d .both .ensures ∙ ap₂ _&&_ (ap (λ (q : ℕ). ltb (i / 16) q) (sym h)) (d .before .holding-in-range .ensures s) in
     pass-step (loop .loop .inv s h) (part .before .before .before .loop-test .taken)
-    (entry-in-range-by eight s (i / 16) (i % 16) (holdingAt (loop .before .args .t2) i) (part .before .is-unused .ensures) (part .if1 .left) (d .both .ensures ∙ ap₂ _&&_ (ap (λ (q : ℕ). ltb (i / 16) q) (sym h)) (d .before .holding-in-range .ensures s)))
+    (entry-in-range-by eight s (i / 16) (i % 16) (holdingAt (loop .before .args .t2) i) (part .before .is-unused .ensures) (part .if1 .left) inside)
     (c .both2 .ensures))
     (λ c s h e.
     let start = c .before .before in

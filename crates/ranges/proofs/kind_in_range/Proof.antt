@@ -6,14 +6,7 @@ use Rattle.ranges.proofs.kind_in_range.Tie as tie
 pub kind-in-range-spec : {M : Type 1} → statement M
 kind-in-range-spec =
     tie.close
-    (tie.spec
-    (λ c. search needs)
-    (λ c. search needs)
-    (λ c. search needs)
-    (λ c. search needs)
-    (λ c. search needs)
-    (λ c κs. tt)
-    (λ c κs. tt)
+    (tie.spec (λ c. search needs) (λ c. search needs) (λ c. search needs) (λ c. search needs) (λ c. search needs) _ _
     (λ c s e. search needs)
     (λ c s e. search needs)
     (λ c s e. search needs)

@@ -6,28 +6,8 @@ use Rattle.ranges.proofs.message_in_range.Tie as tie
 pub message-in-range-spec : {M : Type 1} → statement M
 message-in-range-spec =
     tie.close
-    (tie.spec
-    (λ c. search needs)
-    (λ c. search needs)
-    (λ c κs. tt)
-    (λ c κs. tt)
-    (λ c κs. tt)
-    (λ c. search needs)
-    (λ c κs. tt)
-    (λ c κs. tt)
-    (λ c. search needs)
-    (λ c κs. tt)
-    (λ c κs. tt)
-    (λ c κs. tt)
-    (λ c. search needs)
-    (λ c κs. tt)
-    (λ c. search needs)
-    (λ c κs. tt)
-    (λ c κs. tt)
-    (λ c κs. tt)
-    (λ c. search needs)
-    (λ c κs. tt)
-    (λ c κs. tt)
+    (tie.spec (λ c. search needs) (λ c. search needs) _ _ _ (λ c. search needs) _ _ (λ c. search needs) _ _ _
+    (λ c. search needs) _ (λ c. search needs) _ _ _ (λ c. search needs) _ _
     (λ c s e. search needs)
     (λ c s e. rw (c .both3 .ensures, c .before .both2 .ensures, c .before .before .both .ensures, c .before .before .before .before .m .given .1, e))
     (λ c s e. rw (c .both5 .ensures, c .before .both4 .ensures, c .before .before .before .m2 .given .1, e))

@@ -18,19 +18,13 @@ abbrev μ-loop : tie.MeasureT-loop
 pub messages-in-range-spec : {M : Type 1} → statement M
 messages-in-range-spec =
     tie.close
-    (tie.spec
-    Inv-loop
-    μ-loop
+    (tie.spec Inv-loop μ-loop
     (λ c s h. pass-start _ _)
-    (λ c. search needs)
-    (λ c. search needs)
-    (λ c κs. tt)
-    (λ c κs. tt)
-    (λ c. search needs)
-    (λ c. search needs)
+    (λ c. search needs) (λ c. search needs) _ _ (λ c. search needs) (λ c. search needs)
     (λ c s h.
     let d = c .before in
     pass-step (d .before .before .before .loop .inv s h) (d .before .before .loop-test .taken) (d .message-in-range .ensures s h) (c .both .ensures))
     (λ c s h e.
     let start = c .before .before in
-    rw e (pass-each (λ j x. messageInRange eight s (x .message)) (start .args .t2) _ (c .before .loop .inv s h) (start .good .1 .0 .1 .0 .1) (c .loop-test .left))))
+    let passed = c .before .loop .inv s h in
+    rw e (pass-each (λ j x. messageInRange eight s (x .message)) (start .args .t2) _ passed (start .good .1 .0 .1 .0 .1) (c .loop-test .left))))

@@ -8,15 +8,9 @@ use Rattle.ranges.proofs.point_1.Tie as tie
 pub point-1-spec : {M : Type 1} → statement M
 unfolding point1
 point-1-spec =
-    tie.close
-    (tie.spec
-    (λ c κs. tt)
-    (λ c κs. tt)
-    (λ c κs. tt)
-    (λ c κs. tt)
-    (λ c κs. tt)
-    (λ c κs. tt)
-    (λ c.
+    let returns : tie.Need-returns = λ c.
     let d = c .before .before .before in
     let s = tables (d .before .before .before .before .before .before .args .s) in
-    rw (c .both3 .ensures, c .before .messages-in-range .ensures s refl refl, c .before .before .both2 .ensures, d .entries-in-range .ensures s refl refl, d .before .both .ensures, d .before .before .cells-in-range .ensures s refl refl)))
+    rw (c .both3 .ensures, c .before .messages-in-range .ensures s refl refl, c .before .before .both2 .ensures)
+    (rw (d .entries-in-range .ensures s refl refl, d .before .both .ensures, d .before .before .cells-in-range .ensures s refl refl)) in
+    tie.close (search tie.spec)

@@ -6,7 +6,5 @@ use Rattle.sound.proofs.is_sound.Tie as tie
 
 pub is-sound-spec : {M : Type 1} → statement M
 is-sound-spec =
-    tie.close
-    (tie.spec
-    (λ c κs. tt)
-    (λ c. rw (c .first-broken .ensures) (none-broken eight (tables (c .before .args .s)))))
+    let returns : tie.Need-returns = λ c. rw (c .first-broken .ensures) (none-broken eight (tables (c .before .args .s))) in
+    tie.close (search tie.spec)

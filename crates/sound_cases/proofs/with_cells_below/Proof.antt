@@ -13,13 +13,4 @@ abbrev μ-loop : tie.MeasureT-loop
 pub with-cells-below-spec : {M : Type 1} → statement M
 with-cells-below-spec =
     tie.close
-    (tie.spec
-    Inv-loop
-    μ-loop
-    (λ c κs. tt)
-    (λ c. tt)
-    (λ c κs. tt)
-    (λ c. search needs)
-    (λ c. search needs)
-    (λ c. tt)
-    (λ c. search needs))
+    (tie.spec Inv-loop μ-loop _ _ _ (λ c. search needs) (λ c. search needs) _ (λ c. search needs))

@@ -9,19 +9,11 @@ use Rattle.text.proofs.answer.Tie as tie
 pub answer-spec : {M : Type 1} → statement M
 answer-spec =
     tie.close
-    (tie.spec
-    (λ c. search needs)
-    (λ c. search needs)
-    (λ c κs. tt)
-    (λ c κs. search needs)
-    (λ c. search needs)
+    (tie.spec (λ c. search needs) (λ c. search needs) _ (λ c κs. search needs) (λ c. search needs)
     (λ c.
     let e = c .before .before .before .before .before .enum-told .given .1 in
     (rw e, rw (e, ← c .before .before .before .no-frame-line .ensures) (c .before .before .put .ensures)))
-    (λ c κs. tt)
-    (λ c κs. tt)
-    (λ c κs. search needs)
-    (λ c. search needs)
+    _ _ (λ c κs. search needs) (λ c. search needs)
     (λ c.
     let e = c .before .before .before .before .before .before .before .before .frame .given .1 in
     let r = c .before .before .before .before .before .before .step .ensures in

@@ -21,4 +21,9 @@ returns-2 c =
     (rw (room, n), (rw (room, ← n) o, omega (arith, simp length-append at (ap length o))))
 
 pub run-spec : {M : Type 1} → statement M
-run-spec = tie.close (tie.spec returns (λ c κs. search needs) (λ c. search needs) returns-2)
+run-spec =
+    tie.close
+    (tie.spec
+    returns
+    (λ c κs. search needs) (λ c. search needs)
+    returns-2)

@@ -15,7 +15,8 @@ use Rattle.waits.proofs.cells_awaited.Statement.{statement}
 use Rattle.waits.proofs.cells_awaited.Tie as tie
 
 abbrev Inv-loop2 : tie.InvT-loop2
-Inv-loop2 s good i reading asking w c reads₀ asks₀ j₀ reads asks j = Counting (λ m. readsFor w c (messageAt (s .slots) m)) 64 j reads × Counting (λ m. asksFor w c (messageAt (s .slots) m)) 64 j asks
+Inv-loop2 s good i reading asking w c reads₀ asks₀ j₀ reads asks j =
+    Counting (λ m. readsFor w c (messageAt (s .slots) m)) 64 j reads × Counting (λ m. asksFor w c (messageAt (s .slots) m)) 64 j asks
 
 abbrev μ-loop2 : tie.MeasureT-loop2
 μ-loop2 s good i reading asking w c reads₀ asks₀ j₀ reads asks j = 64 - j
@@ -29,49 +30,30 @@ abbrev μ-loop : tie.MeasureT-loop
 pub cells-awaited-spec : {M : Type 1} → statement M
 cells-awaited-spec =
     tie.close
-    (tie.spec
-    Inv-loop2
-    μ-loop2
-    Inv-loop
-    μ-loop
+    (tie.spec Inv-loop2 μ-loop2 Inv-loop μ-loop
     (λ c. pass-start _ _)
-    (λ c. search needs)
-    (λ c. search needs)
-    (λ c κs. tt)
-    (λ c κs. tt)
-    (λ c κs. tt)
-    (λ c. search needs)
-    (λ c. search needs)
+    (λ c. search needs) (λ c. search needs) _ _ _ (λ c. search needs) (λ c. search needs)
     (λ c.
     let d = c .before in
     let loop = d .before .before .before .before .before in
     let s = tables (loop .before .args .t1) in
-    pass-over (loop .loop .inv) (d .before .before .before .before .loop-test .taken) (nothing-awaited eight s _ _ (kindAt (s .cells) (loop .loop .i)) (d .before .before .is-reading .ensures) (d .before .is-asking .ensures) (d .either .ensures) (c .if1 .taken)))
-    (λ c. search needs)
-    (λ c. search needs)
+    pass-over (loop .loop .inv) (d .before .before .before .before .loop-test .taken)
+    (nothing-awaited eight s _ _ (kindAt (s .cells) (loop .loop .i))
+    (d .before .before .is-reading .ensures) (d .before .is-asking .ensures) (d .either .ensures) (c .if1 .taken)))
+    (λ c. search needs) (λ c. search needs)
     (λ c. (count-start _ _, count-start _ _))
-    (λ c. search needs)
-    (λ c. search needs)
-    (λ c κs. tt)
-    (λ c κs. tt)
+    (λ c. search needs) (λ c. search needs) _ _
     (λ c. omega (arith, bit-small (c .before .reads-for .result) (c .bit-of .ensures), c .before .before .before .before .loop2 .inv .0 .small))
-    (λ c κs. tt)
-    (λ c κs. tt)
+    _ _
     (λ c. omega (arith, bit-small (c .before .asks-for .result) (c .bit-of2 .ensures), c .before .before .before .before .before .before .loop2 .inv .1 .small))
-    (λ c. search needs)
-    (λ c. search needs)
+    (λ c. search needs) (λ c. search needs)
     (λ c.
     let d = c .before .before in
     let within = d .before .before .before in (
       count-step (within .before .loop2 .inv .0) (within .loop2-test .taken) (d .before .reads-for .ensures) (d .bit-of .ensures),
       count-step (within .before .loop2 .inv .1) (within .loop2-test .taken) (c .before .asks-for .ensures) (c .bit-of2 .ensures),
     ))
-    (λ c κs. tt)
-    (λ c κs. tt)
-    (λ c κs. tt)
-    (λ c κs. tt)
-    (λ c. search needs)
-    (λ c. search needs)
+    _ _ _ _ (λ c. search needs) (λ c. search needs)
     (λ c.
     let d = c .before in
     let e = d .before .before .before in

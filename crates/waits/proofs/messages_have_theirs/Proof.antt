@@ -21,36 +21,17 @@ abbrev μ-loop : tie.MeasureT-loop
 pub messages-have-theirs-spec : {M : Type 1} → statement M
 messages-have-theirs-spec =
     tie.close
-    (tie.spec
-    Inv-loop
-    μ-loop
-    (λ c κs. tt)
+    (tie.spec Inv-loop μ-loop _
     (λ c. pass-start _ _)
-    (λ c. search needs)
-    (λ c. search needs)
-    (λ c κs. tt)
-    (λ c. search needs)
-    (λ c. search needs)
+    (λ c. search needs) (λ c. search needs) _ (λ c. search needs) (λ c. search needs)
     (λ c.
     let d = c .before in
     let loop = d .before .before .before in
     let s = tables (loop .before .before .args .t1) in
-    pass-over (loop .loop .inv) (d .before .before .loop-test .taken) (empty-has eight s (messageAt (s .slots) (loop .loop .i)) (d .is-empty .ensures) (c .if1 .taken)))
-    (λ c κs. tt)
-    (λ c κs. tt)
-    (λ c κs. tt)
-    (λ c. search needs)
-    (λ c. search needs)
-    (λ c κs. tt)
-    (λ c κs. tt)
-    (λ c. search needs)
-    (λ c. search needs)
-    (λ c κs. tt)
-    (λ c κs. tt)
-    (λ c κs. tt)
-    (λ c κs. tt)
-    (λ c. search needs)
-    (λ c. search needs)
+    pass-over (loop .loop .inv) (d .before .before .loop-test .taken)
+    (empty-has eight s (messageAt (s .slots) (loop .loop .i)) (d .is-empty .ensures) (c .if1 .taken)))
+    _ _ _ (λ c. search needs) (λ c. search needs) _ _ (λ c. search needs) (λ c. search needs) _ _ _ _
+    (λ c. search needs) (λ c. search needs)
     (λ c.
     let d = c .before in
     let f = d .before .before .before .before in

@@ -6,15 +6,8 @@ use Rattle.waits.proofs.named_entry.Tie as tie
 pub named-entry-spec : {M : Type 1} → statement M
 named-entry-spec =
     tie.close
-    (tie.spec
-    (λ c. search needs)
-    (λ c. search needs)
-    (λ c. search needs)
-    (λ c. search needs)
-    (λ c. search needs)
-    (λ c. search needs)
-    (λ c. search needs)
-    (λ c. search needs)
+    (tie.spec (λ c. search needs) (λ c. search needs) (λ c. search needs) (λ c. search needs) (λ c. search needs)
+    (λ c. search needs) (λ c. search needs) (λ c. search needs)
     (λ c. rw (c .before .m .given .1))
     (λ c. rw (c .before .m2 .given .1))
     (λ c. rw (c .before .m3 .given .1))

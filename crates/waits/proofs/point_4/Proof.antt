@@ -6,9 +6,5 @@ use Rattle.waits.proofs.point_4.Tie as tie
 pub point-4-spec : {M : Type 1} → statement M
 unfolding point4
 point-4-spec =
-    tie.close
-    (tie.spec
-    (λ c κs. tt)
-    (λ c κs. tt)
-    (λ c κs. tt)
-    (λ c. rw (c .both .ensures, c .before .messages-have-theirs .ensures, c .before .before .cells-awaited .ensures)))
+    let returns : tie.Need-returns = λ c. rw (c .both .ensures, c .before .messages-have-theirs .ensures, c .before .before .cells-awaited .ensures) in
+    tie.close (search tie.spec)

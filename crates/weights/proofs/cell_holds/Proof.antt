@@ -6,10 +6,7 @@ use Rattle.weights.proofs.cell_holds.Tie as tie
 
 pub cell-holds-spec : {M : Type 1} → statement M
 cell-holds-spec =
-    tie.close
-    (tie.spec
-    (λ c. search needs)
-    (λ c κs. tt)
-    (λ c κs. tt)
-    (λ c s. rw (c .weight-if .ensures, c .before .both .ensures, c .before .before .before .k .given .1))
-    (λ c s. not-ex _ (c .before .args .k) (c .match .keys2)))
+    let enum-known-k : tie.Need-enum-known-k = λ c. search needs in
+    let returns : tie.Need-returns = λ c s. rw (c .weight-if .ensures, c .before .both .ensures, c .before .before .before .k .given .1) in
+    let returns-2 : tie.Need-returns-2 = λ c s. not-ex _ (c .before .args .k) (c .match .keys2) in
+    tie.close (search tie.spec)

@@ -36,61 +36,36 @@ pub point-5-spec : {M : Type 1} → statement M
 unfolding point5
 point-5-spec =
     tie.close
-    (tie.spec
-    Inv-loop2
-    μ-loop2
-    Inv-loop3
-    μ-loop3
-    Inv-loop
-    μ-loop
+    (tie.spec Inv-loop2 μ-loop2 Inv-loop3 μ-loop3 Inv-loop μ-loop
     (λ c. pass-start _ _)
-    (λ c. search needs)
-    (λ c. search needs)
-    (λ c κs. tt)
-    (λ c. search needs)
-    (λ c. search needs)
+    (λ c. search needs) (λ c. search needs) _ (λ c. search needs) (λ c. search needs)
     (λ c.
     let d = c .before in
     let loop = d .before .before .before in
     let s = tables (loop .before .args .t1) in
-    pass-over (loop .loop .inv) (d .before .before .loop-test .taken) (unused-weighs eight s _ _ (holdingAt (s .entries) (loop .loop .i)) (d .is-unused .ensures) (c .if1 .taken)))
-    (λ c. search needs)
-    (λ c. search needs)
+    pass-over (loop .loop .inv) (d .before .before .loop-test .taken)
+    (unused-weighs eight s _ _ (holdingAt (s .entries) (loop .loop .i)) (d .is-unused .ensures) (c .if1 .taken)))
+    (λ c. search needs) (λ c. search needs)
     (λ c. add-start _ _)
-    (λ c. search needs)
-    (λ c. search needs)
-    (λ c κs. tt)
-    (λ c. search needs)
+    (λ c. search needs) (λ c. search needs) _ (λ c. search needs)
     (λ c. omega (arith, c .before .before .before .loop2 .inv .small))
-    (λ c. search needs)
-    (λ c. search needs)
+    (λ c. search needs) (λ c. search needs)
     (λ c.
     let within = c .before .before in
     let s = tables (within .before .before .before .before .before .before .before .args .t1) in
     add-step (within .before .loop2 .inv) (within .loop2-test .taken) (c .cell-holds .ensures s) (search needs))
     (λ c. add-start _ _)
-    (λ c. search needs)
-    (λ c. search needs)
-    (λ c κs. tt)
-    (λ c. search needs)
-    (λ c. search needs)
+    (λ c. search needs) (λ c. search needs) _ (λ c. search needs) (λ c. search needs)
     (λ c.
     let d = c .before in
     let within = d .before .before in
     let start = within .before .before .before .before .before .before .before .before .before in
     let s = tables (start .args .t1) in
-    add-over (within .before .loop3 .inv) (within .loop3-test .taken) (nothing-held eight s _ _ (messageAt (s .slots) (within .before .loop3 .j)) (d .holds-nothing .ensures) (c .if2 .taken)))
-    (λ c κs. tt)
-    (λ c κs. tt)
-    (λ c κs. tt)
-    (λ c. search needs)
-    (λ c. search needs)
-    (λ c κs. tt)
-    (λ c κs. tt)
-    (λ c. search needs)
+    add-over (within .before .loop3 .inv) (within .loop3-test .taken)
+    (nothing-held eight s _ _ (messageAt (s .slots) (within .before .loop3 .j)) (d .holds-nothing .ensures) (c .if2 .taken)))
+    _ _ _ (λ c. search needs) (λ c. search needs) _ _ (λ c. search needs)
     (λ c. omega (arith, c .before .before .before .before .before .before .before .before .before .before .loop3 .inv .small))
-    (λ c. search needs)
-    (λ c. search needs)
+    (λ c. search needs) (λ c. search needs)
     (λ c.
     let g = c .before .before .before in
     let within = g .before .before .before .before .before .before in
@@ -99,15 +74,13 @@ point-5-spec =
     let i = loop .loop .i in
     let m = messageAt (s .slots) (within .before .loop3 .j) in
     add-step (within .before .loop3 .inv) (within .loop3-test .taken)
-    (message-holds-by eight s (i / 16) (i % 16) m (g .before .before .waiter-of .ensures) (g .before .cell-for .ensures) (cell-read eight s _ _ (g .cell-index .ensures .0) (c .before .cell-seen .ensures)) (c .message-holds .ensures))
+    (message-holds-by eight s (i / 16) (i % 16) m (g .before .before .waiter-of .ensures) (g .before .cell-for .ensures)
+    (cell-read eight s _ _ (g .cell-index .ensures .0) (c .before .cell-seen .ensures)) (c .message-holds .ensures))
     (search needs))
     (λ c.
     let cells = c .before .before in
     omega (arith, c .before .loop3 .inv .small, c .before .loop3 .inv .within, cells .before .loop2 .inv .small, cells .before .loop2 .inv .within))
-    (λ c κs. tt)
-    (λ c κs. tt)
-    (λ c. search needs)
-    (λ c. search needs)
+    _ _ (λ c. search needs) (λ c. search needs)
     (λ c.
     let d = c .before in
     let slots = d .before in

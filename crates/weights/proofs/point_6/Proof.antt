@@ -38,40 +38,25 @@ pub point-6-spec : {M : Type 1} → statement M
 unfolding point6 booked freeCells
 point-6-spec =
     tie.close
-    (tie.spec
-    Inv-loop2
-    μ-loop2
-    Inv-loop3
-    μ-loop3
-    Inv-loop
-    μ-loop
+    (tie.spec Inv-loop2 μ-loop2 Inv-loop3 μ-loop3 Inv-loop μ-loop
     (λ c. pass-start _ _)
     (λ c. count-start _ _)
-    (λ c. search needs)
-    (λ c. search needs)
-    (λ c κs. tt)
-    (λ c κs. tt)
+    (λ c. search needs) (λ c. search needs) _ _
     (λ c. omega (arith, bit-small (c .before .goes-to .result) (c .bit-of .ensures), c .before .before .before .before .loop2 .inv .small))
-    (λ c. search needs)
-    (λ c. search needs)
-    (λ c. count-step (c .before .before .before .before .loop2 .inv) (c .before .before .before .loop2-test .taken) (c .before .goes-to .ensures) (c .bit-of .ensures))
+    (λ c. search needs) (λ c. search needs)
+    (λ c.
+    let within = c .before .before .before in
+    count-step (within .before .loop2 .inv) (within .loop2-test .taken) (c .before .goes-to .ensures) (c .bit-of .ensures))
     (λ c. count-start _ _)
-    (λ c κs. tt)
-    (λ c. search needs)
-    (λ c. search needs)
-    (λ c κs. tt)
-    (λ c κs. tt)
-    (λ c κs. tt)
+    _ (λ c. search needs) (λ c. search needs) _ _ _
     (λ c. omega (arith, bit-small (c .before .is-free .result) (c .bit-of2 .ensures), c .before .before .before .before .before .before .loop3 .inv .small))
-    (λ c. search needs)
-    (λ c. search needs)
+    (λ c. search needs) (λ c. search needs)
     (λ c.
     let d = c .before .before in
     let g = d .before .before in
-    count-step (g .before .before .loop3 .inv) (g .before .loop3-test .taken) (c .before .is-free .ensures ∙ ap isFree (cell-read eight _ _ _ (g .cell-index .ensures .0) (d .cell-seen .ensures))) (c .bit-of2 .ensures))
-    (λ c κs. tt)
-    (λ c. search needs)
-    (λ c. search needs)
+    let read = cell-read eight _ _ _ (g .cell-index .ensures .0) (d .cell-seen .ensures) in
+    count-step (g .before .before .loop3 .inv) (g .before .loop3-test .taken) (c .before .is-free .ensures ∙ ap isFree read) (c .bit-of2 .ensures))
+    _ (λ c. search needs) (λ c. search needs)
     (λ c.
     let free = c .before in
     let slots = free .before .before in
@@ -79,5 +64,6 @@ point-6-spec =
     let s = loop .before .args .t1 in
     let l : length (s .slots) ≡ 64 = simp length-map at (loop .before .good .0 .1 .1 .1 .1 .1 .0 .1 .0 .1) in
     let booked-here = count-total (λ x. goesTo (loop .loop .w) (x .message)) (s .slots) _ l (count-end (slots .before .loop2 .inv) (slots .loop2-test .left)) in
-    pass-step (loop .loop .inv) (slots .before .before .loop-test .taken) (ap₂ leb booked-here (count-end (free .before .loop3 .inv) (free .loop3-test .left))) (c .both .ensures))
+    let free-here = count-end (free .before .loop3 .inv) (free .loop3-test .left) in
+    pass-step (loop .loop .inv) (slots .before .before .loop-test .taken) (ap₂ leb booked-here free-here) (c .both .ensures))
     (λ c. pass-end (c .before .loop .inv) (c .loop-test .left)))

@@ -6,18 +6,10 @@ use Rattle.calls.proofs.refusals.bind_refusals.Tie as tie
 pub bind-refusals-spec : {M : Type 1} → statement M
 unfolding along
 bind-refusals-spec =
-    tie.close
-    (tie.spec
-    (λ c κs. tt)
-    (λ c κs. tt)
-    (λ c κs. tt)
-    (λ c κs. tt)
-    (λ c κs. tt)
-    (λ c κs. tt)
-    (λ c κs. tt)
-    (λ c κs. tt)
-    (λ c κs. tt)
-    (λ c.
+    let returns : tie.Need-returns = λ c.
     let d = c .before .before .before .before in
     let e = d .before .before .before .before in
-    rw (c .refuse-if4 .ensures, c .before .both .ensures, c .before .before .refuse-if3 .ensures, c .before .before .before .is-ex .ensures, d .refuse-if2 .ensures, d .before .is-var .ensures, d .before .before .refuse-if .ensures, d .before .before .before .is-free .ensures, e .cell-refusals .ensures)))
+    rw (c .refuse-if4 .ensures, c .before .both .ensures, c .before .before .refuse-if3 .ensures)
+    (rw (c .before .before .before .is-ex .ensures, d .refuse-if2 .ensures, d .before .is-var .ensures)
+    (rw (d .before .before .refuse-if .ensures, d .before .before .before .is-free .ensures, e .cell-refusals .ensures))) in
+    tie.close (search tie.spec)

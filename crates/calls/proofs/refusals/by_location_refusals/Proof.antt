@@ -18,11 +18,7 @@ passes-ceiling n =
 pub by-location-refusals-spec : {M : Type 1} → statement M
 unfolding along
 by-location-refusals-spec =
-    tie.close
-    (tie.spec
-    (λ c. search needs)
-    (λ c κs. tt)
-    (λ c κs. tt)
-    (λ c κs. tt)
-    (λ c κs. tt)
-    (λ c. rw (c .room-refusals .ensures, c .before .refuse-if2 .ensures, c .before .before .refuse-if .ensures, c .before .before .before .entry-weight .ensures, passes-ceiling)))
+    let sub-over : tie.Need-sub-over = λ c. search needs in
+    let returns : tie.Need-returns = λ c. rw (c .room-refusals .ensures, c .before .refuse-if2 .ensures)
+    (rw (c .before .before .refuse-if .ensures, c .before .before .before .entry-weight .ensures, passes-ceiling)) in
+    tie.close (search tie.spec)

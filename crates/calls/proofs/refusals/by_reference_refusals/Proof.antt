@@ -6,9 +6,5 @@ use Rattle.calls.proofs.refusals.by_reference_refusals.Tie as tie
 pub by-reference-refusals-spec : {M : Type 1} → statement M
 unfolding along
 by-reference-refusals-spec =
-    tie.close
-    (tie.spec
-    (λ c κs. tt)
-    (λ c κs. tt)
-    (λ c κs. tt)
-    (λ c. rw (c .room-refusals .ensures, c .before .refuse-if .ensures, c .before .before .ex-weight .ensures)))
+    let returns : tie.Need-returns = λ c. rw (c .room-refusals .ensures, c .before .refuse-if .ensures, c .before .before .ex-weight .ensures) in
+    tie.close (search tie.spec)

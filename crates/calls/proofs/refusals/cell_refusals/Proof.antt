@@ -6,9 +6,5 @@ use Rattle.calls.proofs.refusals.cell_refusals.Tie as tie
 pub cell-refusals-spec : {M : Type 1} → statement M
 unfolding along
 cell-refusals-spec =
-    tie.close
-    (tie.spec
-    (λ c κs. tt)
-    (λ c κs. tt)
-    (λ c κs. tt)
-    (λ c. rw (c .refuse-if .ensures, c .before .is-free .ensures, c .before .before .worker-refusals .ensures)))
+    let returns : tie.Need-returns = λ c. rw (c .refuse-if .ensures, c .before .is-free .ensures, c .before .before .worker-refusals .ensures) in
+    tie.close (search tie.spec)

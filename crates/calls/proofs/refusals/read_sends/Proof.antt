@@ -6,9 +6,7 @@ use Rattle.calls.proofs.refusals.read_sends.Tie as tie
 
 pub read-sends-spec : {M : Type 1} → statement M
 read-sends-spec =
-    tie.close
-    (tie.spec
-    (λ c. search needs)
-    (λ c κs. tt)
-    (λ c. rw (c .idle .ensures, c .before .before .k .given .1))
-    (λ c. not-ex _ (c .before .args .k) (c .match .keys2)))
+    let enum-known-k : tie.Need-enum-known-k = λ c. search needs in
+    let returns : tie.Need-returns = λ c. rw (c .idle .ensures, c .before .before .k .given .1) in
+    let returns-2 : tie.Need-returns-2 = λ c. not-ex _ (c .before .args .k) (c .match .keys2) in
+    tie.close (search tie.spec)

@@ -6,13 +6,8 @@ use Rattle.calls.proofs.refusals.send_refusals.Tie as tie
 pub send-refusals-spec : {M : Type 1} → statement M
 unfolding along
 send-refusals-spec =
-    tie.close
-    (tie.spec
-    (λ c κs. tt)
-    (λ c κs. tt)
-    (λ c κs. tt)
-    (λ c κs. tt)
-    (λ c κs. tt)
-    (λ c.
+    let returns : tie.Need-returns = λ c.
     let d = c .before .before .before .before in
-    rw (c .refuse-if3 .ensures, c .before .is-free .ensures, c .before .before .refuse-if2 .ensures, c .before .before .before .refuse-if .ensures, d .worker-refusals .ensures)))
+    rw (c .refuse-if3 .ensures, c .before .is-free .ensures, c .before .before .refuse-if2 .ensures)
+    (rw (c .before .before .before .refuse-if .ensures, d .worker-refusals .ensures)) in
+    tie.close (search tie.spec)

@@ -6,8 +6,5 @@ use Rattle.calls.proofs.refusals.slot_refusal.Tie as tie
 pub slot-refusal-spec : {M : Type 1} → statement M
 unfolding along
 slot-refusal-spec =
-    tie.close
-    (tie.spec
-    (λ c κs. tt)
-    (λ c κs. tt)
-    (λ c. rw (c .refuse-if .ensures, c .before .both .ensures)))
+    let returns : tie.Need-returns = λ c. rw (c .refuse-if .ensures, c .before .both .ensures) in
+    tie.close (search tie.spec)

@@ -6,8 +6,5 @@ use Rattle.calls.proofs.refusals.worker_refusals.Tie as tie
 pub worker-refusals-spec : {M : Type 1} → statement M
 unfolding along
 worker-refusals-spec =
-    tie.close
-    (tie.spec
-    (λ c κs. tt)
-    (λ c κs. tt)
-    (λ c. rw (c .refuse-if2 .ensures, c .before .refuse-if .ensures)))
+    let returns : tie.Need-returns = λ c. rw (c .refuse-if2 .ensures, c .before .refuse-if .ensures) in
+    tie.close (search tie.spec)

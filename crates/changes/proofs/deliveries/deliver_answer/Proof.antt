@@ -6,9 +6,5 @@ use Rattle.changes.proofs.deliveries.deliver_answer.Tie as tie
 pub deliver-answer-spec : {M : Type 1} → statement M
 unfolding deliverAnswer
 deliver-answer-spec =
-    tie.close
-    (tie.spec
-    (λ c κs. tt)
-    (λ c κs. tt)
-    (λ c κs. tt)
-    (λ c t e. rw (c .with-cell-and-message .ensures, c .before .known .ensures, c .before .before .cell-at .ensures t e)))
+    let returns : tie.Need-returns = λ c t e. rw (c .with-cell-and-message .ensures, c .before .known .ensures, c .before .before .cell-at .ensures t e) in
+    tie.close (search tie.spec)

@@ -6,13 +6,8 @@ use Rattle.changes.proofs.deliveries.deliver_ask.Tie as tie
 pub deliver-ask-spec : {M : Type 1} → statement M
 unfolding deliverAsk
 deliver-ask-spec =
-    tie.close
-    (tie.spec
-    (λ c κs. tt)
-    (λ c κs. tt)
-    (λ c κs. tt)
-    (λ c κs. tt)
-    (λ c κs. tt)
-    (λ c t e.
+    let returns : tie.Need-returns = λ c t e.
     let d = c .before .before .before .before in
-    rw (c .with-entry-and-message .ensures, c .before .grown .ensures, c .before .before .supply-from .ensures, c .before .before .before .entry-weight .ensures, d .entry-at .ensures t e)))
+    rw (c .with-entry-and-message .ensures, c .before .grown .ensures)
+    (rw (c .before .before .supply-from .ensures, c .before .before .before .entry-weight .ensures, d .entry-at .ensures t e)) in
+    tie.close (search tie.spec)

@@ -8,13 +8,9 @@ use Rattle.changes.proofs.deliveries.deliver_away.Tie as tie
 pub deliver-away-spec : {M : Type 1} → statement M
 unfolding deliverAway
 deliver-away-spec =
-    tie.close
-    (tie.spec
-    (λ c κs. tt)
-    (λ c κs. tt)
-    (λ c κs. tt)
-    (λ c. search needs)
-    (λ c κs. tt)
-    (λ c t e h q.
+    let cast-t10 : tie.Need-cast-t10 = λ c. search needs in
+    let returns : tie.Need-returns = λ c t e h q.
     let d = c .before in
-    rw (c .with-cell-and-message .ensures, d .joined .ensures q (rw (d .before .cell-at .ensures t e) (cell-weight _ _ h _ _)), d .before .cell-at .ensures t e, d .before .before .arrival-cell .ensures t e)))
+    let here = d .before .cell-at .ensures t e in
+    rw (c .with-cell-and-message .ensures, d .joined .ensures q (rw here (cell-weight _ _ h _ _)), here, d .before .before .arrival-cell .ensures t e) in
+    tie.close (search tie.spec)

@@ -7,11 +7,8 @@ use Rattle.changes.proofs.deliveries.deliver_supply.Tie as tie
 pub deliver-supply-spec : {M : Type 1} → statement M
 unfolding deliverSupply
 deliver-supply-spec =
-    tie.close
-    (tie.spec
-    (λ c κs. tt)
-    (λ c κs. tt)
-    (λ c κs. tt)
-    (λ c t e h q.
+    let returns : tie.Need-returns = λ c t e h q.
     let d = c .before in
-    rw (c .with-cell-and-message .ensures, d .supplied .ensures q (rw (d .before .cell-at .ensures t e) (cell-weight _ _ h _ _)), d .before .cell-at .ensures t e)))
+    let here = d .before .cell-at .ensures t e in
+    rw (c .with-cell-and-message .ensures, d .supplied .ensures q (rw here (cell-weight _ _ h _ _)), here) in
+    tie.close (search tie.spec)

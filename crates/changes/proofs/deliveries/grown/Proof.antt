@@ -6,10 +6,5 @@ use Rattle.changes.proofs.deliveries.grown.Tie as tie
 pub grown-spec : {M : Type 1} → statement M
 grown-spec =
     tie.close
-    (tie.spec
-    (λ c. search needs)
-    (λ c. search needs)
-    (λ c κs. tt)
-    (λ c. search needs)
-    (λ c. search needs)
+    (tie.spec (λ c. search needs) (λ c. search needs) _ (λ c. search needs) (λ c. search needs)
     (λ c. rw (c .supply-from .ensures, c .before .before .x .given .1)))

@@ -6,16 +6,8 @@ use Rattle.changes.proofs.deliveries.read_end.Tie as tie
 pub read-end-spec : {M : Type 1} → statement M
 read-end-spec =
     tie.close
-    (tie.spec
-    (λ c. search needs)
-    (λ c. search needs)
-    (λ c. search needs)
-    (λ c. search needs)
-    (λ c κs. tt)
-    (λ c κs. tt)
-    (λ c. search needs)
-    (λ c. search needs)
-    (λ c. search needs)
+    (tie.spec (λ c. search needs) (λ c. search needs) (λ c. search needs) (λ c. search needs) _ _ (λ c. search needs)
+    (λ c. search needs) (λ c. search needs)
     (λ c t e f. rw (c .enum-told .given .1))
     (λ c t e f. rw (c .enum-told2 .given .1))
     (λ c t e f. rw (c .enum-told3 .given .1))

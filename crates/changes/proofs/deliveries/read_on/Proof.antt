@@ -6,15 +6,8 @@ use Rattle.changes.proofs.deliveries.read_on.Tie as tie
 pub read-on-spec : {M : Type 1} → statement M
 read-on-spec =
     tie.close
-    (tie.spec
-    (λ c. search needs)
-    (λ c. search needs)
-    (λ c. search needs)
-    (λ c. search needs)
-    (λ c. search needs)
-    (λ c κs. tt)
-    (λ c. search needs)
-    (λ c. search needs)
+    (tie.spec (λ c. search needs) (λ c. search needs) (λ c. search needs) (λ c. search needs) (λ c. search needs) _
+    (λ c. search needs) (λ c. search needs)
     (λ c. rw (c .before .k .given .1))
     (λ c. search needs)
     (λ c. rw (c .read-on-ex .ensures, c .before .before .k2 .given .1)))

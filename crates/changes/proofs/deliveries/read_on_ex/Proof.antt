@@ -6,10 +6,7 @@ use Rattle.changes.proofs.deliveries.read_on_ex.Tie as tie
 pub read-on-ex-spec : {M : Type 1} → statement M
 read-on-ex-spec =
     tie.close
-    (tie.spec
-    (λ c. search needs)
-    (λ c. search needs)
-    (λ c. search needs)
+    (tie.spec (λ c. search needs) (λ c. search needs) (λ c. search needs)
     (λ c. rw (c .enum-told .given .1))
     (λ c. rw (c .enum-told2 .given .1))
     (λ c. rw (c .before .st .given .1)))

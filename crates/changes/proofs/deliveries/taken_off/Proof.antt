@@ -7,10 +7,6 @@ use Rattle.changes.proofs.deliveries.taken_off.Tie as tie
 pub taken-off-spec : {M : Type 1} → statement M
 taken-off-spec =
     tie.close
-    (tie.spec
-    (λ c. search needs)
-    (λ c. search needs)
-    (λ c. search needs)
-    (λ c. search needs)
+    (tie.spec (λ c. search needs) (λ c. search needs) (λ c. search needs) (λ c. search needs)
     (λ c. rw (c .before .before .x .given .1, le-leb _ _ (c .if1 .taken)))
     (λ c. rw (c .before .before .x .given .1, lt-leb _ _ (c .if1 .left))))

@@ -8,8 +8,6 @@ pub answer-spec : {M : Type 1} → statement M
 unfolding settled
 answer-spec =
     tie.close
-    (tie.spec
-    (λ c. search needs)
-    (λ c. search needs)
+    (tie.spec (λ c. search needs) (λ c. search needs)
     (λ c. rw (c .before .self .given .1))
     (λ c. rw (c .enum-told .given .1)))

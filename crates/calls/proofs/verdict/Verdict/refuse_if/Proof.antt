@@ -8,9 +8,6 @@ pub refuse-if-spec : {M : Type 1} → statement M
 unfolding refuseIf
 refuse-if-spec =
     tie.close
-    (tie.spec
-    (λ c. search needs)
-    (λ c. search needs)
-    (λ c. search needs)
+    (tie.spec (λ c. search needs) (λ c. search needs) (λ c. search needs)
     (λ c. rw (c .before .enum-told2 .given .1, c .if1 .taken))
     (λ c. rw (c .before .enum-told2 .given .1, c .if1 .left)))
