@@ -28,7 +28,7 @@ use Rattle.rules.specs.Answers.{Result}
 use Rattle.rules.specs.Chains.{through, follow}
 use Rattle.rules.specs.Sound.{readsFor, asksFor, readsOf, asksOf, cellHolds, messageHolds, held}
 use Rattle.rules.specs.Calls.{allFree, closed, start}
-use Rattle.rules.specs.Facts.{CellFact, EntryFact, MessageFact, ReadAhead, KnownFact, AnswerFact}
+use Rattle.rules.specs.Facts.{CellFact, EntryFact, MessageFact, ReadAhead}
 use Rattle.rules.proofs.Inside.{cells-all, entries-all}
 use Rattle.rules.proofs.Named.{nowhere-at}
 use Rattle.rules.specs.Move.{Invariant}
@@ -97,7 +97,7 @@ module _ (𝓜 : Machine) (p : ℕ) where
               room = λ w. omega (arith, slots-nothing (λ m. bit (goesTo w m)) refl);
             };
         reads = λ k. (0, subst (ReadAhead 𝓜 s 0) (sym (message-free k)) tt);
-        known = record { exes = λ w c. subst (KnownFact 𝓜 s) (sym (cell-free w c)) tt; answers = λ k. subst (AnswerFact 𝓜 s) (sym (message-free k)) tt };
+        known = record { exes = λ w c. rw (cell-free w c) tt; answers = λ k. rw (message-free k) tt };
         rank = λ a b. 0;
         ranked =
             record {
@@ -112,8 +112,10 @@ pub start-invariant : (𝓜 : Machine) (p : ℕ) → Invariant 𝓜 (start 𝓜 
 unfolding start
 start-invariant 𝓜 p = go (eqb p 0 || ltb (𝓜 .workers) p) refl
   where
-    go : (b : Bool) → (eqb p 0 || ltb (𝓜 .workers) p) ≡ b
-        → Invariant 𝓜 (cond {A = Result} b (record { outcome = Refused WorkerCount; after = closed 𝓜 }) (record { outcome = Done 0; after = allFree 𝓜 p }) .after)
+    given : Bool → Result
+    given b = cond b (record { outcome = Refused WorkerCount; after = closed 𝓜 }) (record { outcome = Done 0; after = allFree 𝓜 p })
+
+    go : (b : Bool) → (eqb p 0 || ltb (𝓜 .workers) p) ≡ b → Invariant 𝓜 (given b .after)
     go true t = free-invariant 𝓜 0 (omega arith)
     go false t =
         let n = or-no (eqb p 0) (ltb (𝓜 .workers) p) t in

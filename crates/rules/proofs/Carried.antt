@@ -1,6 +1,6 @@
 -- Reads stay on their chains, and what is known stays true, under a move that brings what it must. Assumes nothing.
 use Prim.Native.Nat.{ℕ}
-use mathlib.Core.Path.{_≡_, refl, sym, ap, subst, _∙_}
+use mathlib.Core.Path.{_≡_, refl, ap, subst, _∙_}
 use mathlib.Core.Bool.{true}
 use mathlib.Core.Logic.{⊎-elim}
 use Rattle.tables.specs.declared.Status.{Status}
@@ -15,7 +15,7 @@ use Rattle.tables.specs.Machine.{Machine, Tables}
 use Rattle.tables.specs.Parts.{namedBy}
 use Rattle.tables.specs.Look.{cell, message}
 use Rattle.rules.specs.Sound.{readsFor}
-use Rattle.rules.specs.Chains.{ahead, EndsIn}
+use Rattle.rules.specs.Chains.{ahead}
 use Rattle.rules.specs.Facts.{Facts, ReadAhead, Reads, StatusFact, KnownFact, AnswerFact}
 use Rattle.rules.proofs.Named.{eq-both}
 use Rattle.rules.proofs.Derived.{reading-cell, LivePlace, named-place}
@@ -35,30 +35,22 @@ module _ (𝓜 : Machine) (s : Tables) (h : Move) (F : Facts 𝓜 s) (K : Keeps 
       shown-name Nowhere (λ owner entr. At owner entr) (cell 𝓜 (next 𝓜 s h) r d) (cell 𝓜 s r d)
       (reading-shown 𝓜 s h F K r d (reading-cell 𝓜 s F j r d (ap (readsFor r d) q ∙ t)))
 
-  -- ---- a message that stays
-  read-kept : (j n : ℕ) (m : Message) → message s j ≡ m → ReadAhead 𝓜 s n m → ReadAhead 𝓜 (next 𝓜 s h) n m
-  read-kept j n Empty q f = tt
-  read-kept j n (Reference to o e w) q f = tt
-  read-kept j n (Release o e w) q f = tt
-  read-kept j n (Read r d o e) q f =
+  -- ---- a message that stays: a Read stays on its chain, and an Answer true
+  message-kept : (j : ℕ) (m : Message) → message s j ≡ m
+      → ((n : ℕ) → ReadAhead 𝓜 s n m → ReadAhead 𝓜 (next 𝓜 s h) n m) × (AnswerFact 𝓜 s m → AnswerFact 𝓜 (next 𝓜 s h) m)
+  message-kept j Empty q = ((λ n f. tt), (λ f. tt))
+  message-kept j (Reference to o e w) q = ((λ n f. tt), (λ f. tt))
+  message-kept j (Release o e w) q = ((λ n f. tt), (λ f. tt))
+  message-kept j (Read r d o e) q =
       let same = waiting-name j r d (Read r d o e) q (eq-both r d) in
-      ahead-kept 𝓜 s h F K n (namedBy (cell 𝓜 (next 𝓜 s h) r d)) o e (named-place 𝓜 (next 𝓜 s h) F′ r d)
-      (ap (ahead 𝓜 s n) same ∙ f)
-  read-kept j n (Answer r d v) q f = tt
-  read-kept j n (Ask a d o e) q f = tt
-  read-kept j n (Supply a d w) q f = tt
-
-  answer-kept : (j : ℕ) (m : Message) → message s j ≡ m → AnswerFact 𝓜 s m → AnswerFact 𝓜 (next 𝓜 s h) m
-  answer-kept j Empty q f = tt
-  answer-kept j (Reference to o e w) q f = tt
-  answer-kept j (Release o e w) q f = tt
-  answer-kept j (Read r d o e) q f = tt
-  answer-kept j (Answer r d v) q f =
+      let live = named-place 𝓜 (next 𝓜 s h) F′ r d in
+      ((λ n f. ahead-kept 𝓜 s h F K n (namedBy (cell 𝓜 (next 𝓜 s h) r d)) o e live (ap (ahead 𝓜 s n) same ∙ f)), (λ f. tt))
+  message-kept j (Answer r d v) q =
       let same = waiting-name j r d (Answer r d v) q (eq-both r d) in
-      ends-kept 𝓜 s h F K (namedBy (cell 𝓜 (next 𝓜 s h) r d)) v (named-place 𝓜 (next 𝓜 s h) F′ r d)
-      (subst (λ (p : Place). EndsIn 𝓜 s p v) (sym same) f)
-  answer-kept j (Ask a d o e) q f = tt
-  answer-kept j (Supply a d w) q f = tt
+      let live = named-place 𝓜 (next 𝓜 s h) F′ r d in
+      ((λ n f. tt), (λ f. ends-kept 𝓜 s h F K (namedBy (cell 𝓜 (next 𝓜 s h) r d)) v live (rw same f)))
+  message-kept j (Ask a d o e) q = ((λ n f. tt), (λ f. tt))
+  message-kept j (Supply a d w) q = ((λ n f. tt), (λ f. tt))
 
   -- ---- what is known
   status-kept : (p : Place) (st : Status) → LivePlace 𝓜 (next 𝓜 s h) p → StatusFact 𝓜 s p st → StatusFact 𝓜 (next 𝓜 s h) p st
@@ -78,13 +70,13 @@ module _ (𝓜 : Machine) (s : Tables) (h : Move) (F : Facts 𝓜 s) (K : Keeps 
   pub reads-kept : ReadsOn 𝓜 s h → Reads 𝓜 s → Reads 𝓜 (next 𝓜 s h)
   reads-kept on old =
       messages-all 𝓜 s h (F .sized) (K .placed) (λ m. (n : ℕ) × ReadAhead 𝓜 (next 𝓜 s h) n m)
-      (λ j. (old j .0, read-kept j (old j .0) (message s j) refl (old j .1)))
+      (λ j. (old j .0, message-kept j (message s j) refl .0 (old j .0) (old j .1)))
       on
 
   module _ (C : Carries 𝓜 s h) where
     answers-kept : ((j : ℕ) → AnswerFact 𝓜 s (message s j)) → (j : ℕ) → AnswerFact 𝓜 (next 𝓜 s h) (message (next 𝓜 s h) j)
     answers-kept old =
-        messages-all 𝓜 s h (F .sized) (K .placed) (AnswerFact 𝓜 (next 𝓜 s h)) (λ j. answer-kept j (message s j) refl (old j)) (C .answer-ok)
+        messages-all 𝓜 s h (F .sized) (K .placed) (AnswerFact 𝓜 (next 𝓜 s h)) (λ j. message-kept j (message s j) refl .1 (old j)) (C .answer-ok)
 
     known-after : ((v d : ℕ) → KnownFact 𝓜 s (cell 𝓜 s v d)) → (v d : ℕ) → KnownFact 𝓜 (next 𝓜 s h) (cell 𝓜 (next 𝓜 s h) v d)
     known-after old v d =

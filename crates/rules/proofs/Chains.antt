@@ -5,8 +5,7 @@ use native.Mathlib.Omega.{arith}
 use mathlib.Core.Path.{_≡_, refl, sym, ap, _∙_}
 use mathlib.Core.Bool.{true}
 use Rattle.numbers.specs.Tests.{absurd-bool}
-use Rattle.tables.specs.declared.Kind.{Kind}
-use Rattle.tables.specs.declared.Kind.the-variants.{Free, Var, Val, Ref, Ex}
+use Rattle.tables.specs.declared.Kind.the-variants.{Val}
 use Rattle.tables.specs.declared.Place.{Place}
 use Rattle.tables.specs.declared.Place.the-variants.{Nowhere, At}
 use Rattle.tables.specs.Machine.{Machine, Tables}
@@ -15,6 +14,7 @@ use Rattle.tables.specs.Look.{entry}
 use Rattle.rules.specs.Chains.{entryEnd, follow, ahead, EndsIn}
 use Rattle.rules.proofs.Named.{nowhere-at}
 use Rattle.rules.proofs.Walks.{ahead-nowhere, ahead-add}
+use Rattle.rules.proofs.Steps.{var-is}
 
 module _ (𝓜 : Machine) (s : Tables) where
   -- a step goes to what the end of the entry's cell names
@@ -34,47 +34,36 @@ module _ (𝓜 : Machine) (s : Tables) where
       ∙ ap (ahead 𝓜 s more) (follow-end o e ∙ plain)
       ∙ ahead-nowhere 𝓜 s more
 
-  one-place : (m : ℕ) (p : Place) (o e o′ e′ : ℕ) → ahead 𝓜 s m p ≡ At o e → ahead 𝓜 s m p ≡ At o′ e′ → (o ≡ o′) × (e ≡ e′)
-  one-place m p o e o′ e′ q r =
-      let a : o ≡ o′ = cc in
-      let b : e ≡ e′ = cc in
-      (a, b)
-
-  same-end : (o e o′ e′ : ℕ) → o ≡ o′ → e ≡ e′ → entryEnd 𝓜 s o (entry 𝓜 s o e) ≡ entryEnd 𝓜 s o′ (entry 𝓜 s o′ e′)
-  same-end o e o′ e′ a b =
-      ap (λ (u : ℕ). entryEnd 𝓜 s u (entry 𝓜 s u e)) a ∙ ap (λ (u : ℕ). entryEnd 𝓜 s o′ (entry 𝓜 s o′ u)) b
+  -- one place has one end
+  one-end : (m : ℕ) (p : Place) (o e o′ e′ : ℕ) → ahead 𝓜 s m p ≡ At o e → ahead 𝓜 s m p ≡ At o′ e′
+      → entryEnd 𝓜 s o (entry 𝓜 s o e) ≡ entryEnd 𝓜 s o′ (entry 𝓜 s o′ e′)
+  one-end m p o e o′ e′ q r =
+      let owner : o ≡ o′ = cc in
+      let number : e ≡ e′ = cc in
+      rw (owner, number)
 
   -- a chain that ends in u and in v: they are one
   pub ends-one : (p : Place) (u v : ℕ) → EndsIn 𝓜 s p u → EndsIn 𝓜 s p v → u ≡ v
   ends-one p u v x y = go (decLt (x .steps) (y .steps)) (decLt (y .steps) (x .steps))
     where
-      val-one : (a b : ℕ) → Val a ≡ Val b → a ≡ b
-      val-one a b q = cc
-
       go : Dec (x .steps < y .steps) → Dec (y .steps < x .steps) → u ≡ v
       go (yes l) r = nowhere-at (sym (past-end p (x .steps) (y .steps) (x .owner) (x .number) (x .there) (ap namedBy (x .value)) l) ∙ y .there)
       go (no l) (yes r) = nowhere-at (sym (past-end p (y .steps) (x .steps) (y .owner) (y .number) (y .there) (ap namedBy (y .value)) r) ∙ x .there)
       go (no l) (no r) =
           let same : x .steps ≡ y .steps = omega arith in
-          let at = one-place (y .steps) p (x .owner) (x .number) (y .owner) (y .number) (ap (λ (n : ℕ). ahead 𝓜 s n p) (sym same) ∙ x .there) (y .there) in
-          let both : Val u ≡ Val v = sym (x .value) ∙ same-end (x .owner) (x .number) (y .owner) (y .number) (at .0) (at .1) ∙ y .value in
-          val-one u v both
+          let here : ahead 𝓜 s (y .steps) p ≡ At (x .owner) (x .number) = ap (λ (n : ℕ). ahead 𝓜 s n p) (sym same) ∙ x .there in
+          let ends = one-end (y .steps) p (x .owner) (x .number) (y .owner) (y .number) here (y .there) in
+          let both : Val u ≡ Val v = sym (x .value) ∙ ends ∙ y .value in
+          cc
 
   -- a place on a chain that ends in a value has no VAR for its end
   pub on-chain : (p : Place) (n v o e : ℕ) → EndsIn 𝓜 s p v → ahead 𝓜 s n p ≡ At o e → isVar (entryEnd 𝓜 s o (entry 𝓜 s o e)) ≡ true → ⊥
   on-chain p n v o e x q var = go (decLt n (x .steps)) (decLt (x .steps) n)
     where
-      var-named : (k : Kind) → isVar k ≡ true → namedBy k ≡ Nowhere
-      var-named Free t = refl
-      var-named Var t = refl
-      var-named (Val m) t = refl
-      var-named (Ref d) t = refl
-      var-named (Ex a b m st w) t = absurd-bool t refl
-
       go : Dec (n < x .steps) → Dec (x .steps < n) → ⊥
-      go (yes l) r = nowhere-at (sym (past-end p n (x .steps) o e q (var-named (entryEnd 𝓜 s o (entry 𝓜 s o e)) var) l) ∙ x .there)
+      go (yes l) r = nowhere-at (sym (past-end p n (x .steps) o e q (ap namedBy (var-is (entryEnd 𝓜 s o (entry 𝓜 s o e)) var)) l) ∙ x .there)
       go (no l) (yes r) = nowhere-at (sym (past-end p (x .steps) n (x .owner) (x .number) (x .there) (ap namedBy (x .value)) r) ∙ q)
       go (no l) (no r) =
           let same : n ≡ x .steps = omega arith in
-          let at = one-place (x .steps) p o e (x .owner) (x .number) (ap (λ (i : ℕ). ahead 𝓜 s i p) (sym same) ∙ q) (x .there) in
-          absurd-bool var (ap isVar (same-end o e (x .owner) (x .number) (at .0) (at .1) ∙ x .value))
+          let here : ahead 𝓜 s (x .steps) p ≡ At o e = ap (λ (i : ℕ). ahead 𝓜 s i p) (sym same) ∙ q in
+          absurd-bool var (ap isVar (one-end (x .steps) p o e (x .owner) (x .number) here (x .there) ∙ x .value))

@@ -20,12 +20,12 @@ use Rattle.tables.specs.Look.{cell, entry, exported, message}
 use Rattle.rules.specs.Chains.{ahead, LeadsTo}
 use Rattle.rules.specs.Sound.{messageHolds}
 use Rattle.rules.specs.Facts.{MessageFact, Facts, Reads}
-use Rattle.rules.specs.Move.{Move, next, shown, ReferenceGoes, Keeps, Makes, nothing, moved}
+use Rattle.rules.specs.Move.{Move, next, ReferenceGoes, Keeps, Makes, nothing, moved}
 use Rattle.rules.specs.Statements.{messageNames, Gone, home, away, KeepsNaming, Continues, as-it-was, given-a-value, bound-to, KeepsContext}
 use Rattle.rules.proofs.Named.{the-live, the-entry-of, names-live-entry, both-eq, eq-both}
 use Rattle.rules.proofs.Busy.{exported-by}
 use Rattle.rules.proofs.Derived.{live-fact, held-live, sent-held, names-live, LivePlace, live-place, ahead-place, read-live}
-use Rattle.rules.proofs.Kept.{shown-plain, exported-shown, VarAfter, var-or-val, ref-to-safe, var-after, live-kept, facts-kept}
+use Rattle.rules.proofs.Kept.{VarAfter, var-or-val, ref-to-safe, var-after, live-kept, facts-kept, exported-same}
 use Rattle.rules.proofs.Stored.{stored-each}
 use Rattle.rules.proofs.Next.{cell-stored, slot-here, slot-other}
 use Rattle.rules.proofs.Onward.{ahead-kept}
@@ -72,7 +72,7 @@ module _ (𝓜 : Machine) (s : Tables) (h : Move) (F : Facts 𝓜 s) (K : Keeps 
       go Free q u = absurd-bool u refl
       go Var q u = after (cell 𝓜 (next 𝓜 s h) w c) q refl (var-after 𝓜 s h F K w c x q)
       go (Val n) q u =
-          as-it-was (shown-plain (cell 𝓜 (next 𝓜 s h) w c) (Val n) refl (exported-shown 𝓜 s h F K w c x (ap isVar q) ∙ ap shown q) ∙ sym q)
+          as-it-was (exported-same 𝓜 s h F K w c (Val n) x q refl refl ∙ sym q)
       go (Ref d) q u = absurd-bool u refl
       go (Ex o e n st a) q u = absurd-bool u refl
 

@@ -3,13 +3,14 @@
 use Prim.Native.Nat.{ℕ, zero, suc, _+_, _*_, _/_, _%_, _<_, _≤_}
 use native.Mathlib.Nat.{div-add-mod', mod-lt, div-lt-iff-lt-mul}
 use native.Mathlib.Omega.{arith}
-use mathlib.Core.Path.{_≡_, refl, sym, ap, subst, _∙_}
+use mathlib.Core.Path.{_≡_, refl, sym, ap, _∙_}
 use mathlib.Core.Bool.{Bool, true, false, _&&_, _||_}
 use lib.Arith.{digits-lt, digits-div, digits-mod}
 use lib.Dec.{leb}
 use borrow.Author.Tests.{le-leb, lt-leb, leb-true}
 use Rattle.numbers.specs.Below.{sumBelow, bit, countBelow}
-use Rattle.numbers.specs.BelowLaws.{sum-mono, sum-less, count-le, term-le}
+use Rattle.numbers.specs.Tests.{and-l, and-r, and-i}
+use Rattle.numbers.specs.BelowLaws.{sum-mono, sum-less, term-le}
 use Rattle.numbers.specs.ListLaws.{total-below}
 use Rattle.tables.specs.declared.Entry.{Entry}
 use Rattle.tables.specs.declared.Holding.the-variants.{Unused}
@@ -26,30 +27,23 @@ use Rattle.rules.proofs.Ends.{EndIs, plain, leads, entry-end-is, entry-
 use Rattle.rules.proofs.Derived.{follow-place}
 use Rattle.rules.specs.Move.{Ranked}
 
-bit-le : (a b : Bool) → bit (a && b) ≤ bit a
-bit-le true true = omega arith
-bit-le true false = omega arith
-bit-le false b = omega arith
-
--- where b holds only where c does
-bit-mono : (a b c : Bool) → (b ≡ true → c ≡ true) → bit (a && b) ≤ bit (a && c)
-bit-mono true true c h = subst (λ (z : Bool). 1 ≤ bit z) (sym (h refl)) (omega arith)
-bit-mono true false c h = omega arith
-bit-mono false b c h = omega arith
+-- where a holds only where b does
+pub bit-mono : (a b : Bool) → (a ≡ true → b ≡ true) → bit a ≤ bit b
+bit-mono true b h = rw (h refl) (omega arith)
+bit-mono false b h = omega arith
 
 module _ (𝓜 : Machine) (s : Tables) (r : ℕ → ℕ → ℕ) where
-  -- the entry at the place j is live, and stands at most at the rank ρ
+  -- the entry b of worker a is live, and stands at most at the rank ρ; so the entry at the place j
+  abbrev pub stands : ℕ → ℕ → ℕ → Bool
+  stands ρ a b = isLive (entry 𝓜 s a b) && leb (r a b) ρ
+
   abbrev pub standsAt : ℕ → ℕ → Bool
-  standsAt ρ j = isLive (entry 𝓜 s (j / 𝓜 .entries) (j % 𝓜 .entries)) && leb (r (j / 𝓜 .entries) (j % 𝓜 .entries)) ρ
+  standsAt ρ j = stands ρ (j / 𝓜 .entries) (j % 𝓜 .entries)
 
   unfoldable pub standing : ℕ → ℕ
   standing ρ = countBelow (𝓜 .workers * 𝓜 .entries) (standsAt ρ)
 
 module _ (𝓜 : Machine) (L : Laws 𝓜) (s : Tables) (z : Sized 𝓜 s) (r : ℕ → ℕ → ℕ) where
-  pub standing-all : (ρ : ℕ) → standing 𝓜 s r ρ ≤ 𝓜 .workers * 𝓜 .entries
-  unfolding standing
-  standing-all ρ = count-le (𝓜 .workers * 𝓜 .entries) (standsAt 𝓜 s r ρ)
-
   pub standing-live : (ρ : ℕ) → standing 𝓜 s r ρ ≤ liveEntries s
   unfolding standing liveEntries
   standing-live ρ =
@@ -63,9 +57,12 @@ module _ (𝓜 : Machine) (L : Laws 𝓜) (s : Tables) (z : Sized 𝓜 s) (r : �
     where
       le : (j : ℕ) → j < 𝓜 .workers * 𝓜 .entries → bit (standsAt 𝓜 s r ρ j) ≤ bit (isLive (holdingAt (s .entries) j))
       le j l =
+          let a = j / 𝓜 .entries in
+          let b = j % 𝓜 .entries in
           let row = div-lt-iff-lt-mul (L .entries-some) .1 l in
-          let here = entry-in 𝓜 s (j / 𝓜 .entries) (j % 𝓜 .entries) row (mod-lt j (L .entries-some)) ∙ ap (holdingAt (s .entries)) (div-add-mod' j (𝓜 .entries)) in
-          omega (arith, bit-le (isLive (entry 𝓜 s (j / 𝓜 .entries) (j % 𝓜 .entries))) (leb (r (j / 𝓜 .entries) (j % 𝓜 .entries)) ρ), ap (λ x. bit (isLive x)) here)
+          let here = entry-in 𝓜 s a b row (mod-lt j (L .entries-some)) ∙ ap (holdingAt (s .entries)) (div-add-mod' j (𝓜 .entries)) in
+          bit-mono (stands 𝓜 s r ρ a b) (isLive (holdingAt (s .entries) j))
+          (λ t. sym (ap isLive here) ∙ and-l (isLive (entry 𝓜 s a b)) (leb (r a b) ρ) t)
 
   -- the place of a live entry
   standsAt-own : (a b ρ : ℕ) → isLive (entry 𝓜 s a b) ≡ true
@@ -91,8 +88,13 @@ module _ (𝓜 : Machine) (L : Laws 𝓜) (s : Tables) (z : Sized 𝓜 s) (r : �
       let low = standsAt-own a b ρ l in
       let own = standsAt-own a b (r a b) l in
       sum-less (𝓜 .workers * 𝓜 .entries) (a * 𝓜 .entries + b) (λ j. bit (standsAt 𝓜 s r ρ j)) (λ j. bit (standsAt 𝓜 s r (r a b) j)) (low .0)
-      (λ j k. bit-mono (isLive (entry 𝓜 s (j / 𝓜 .entries) (j % 𝓜 .entries))) (leb (r (j / 𝓜 .entries) (j % 𝓜 .entries)) ρ) (leb (r (j / 𝓜 .entries) (j % 𝓜 .entries)) (r a b)) (λ t. le-leb (r (j / 𝓜 .entries) (j % 𝓜 .entries)) (r a b) (omega (arith, leb-true (r (j / 𝓜 .entries) (j % 𝓜 .entries)) ρ t))))
+      (λ j k. bit-mono (standsAt 𝓜 s r ρ j) (standsAt 𝓜 s r (r a b) j) (higher (j / 𝓜 .entries) (j % 𝓜 .entries)))
       (omega (arith, ap bit (low .1), ap bit (own .1), ap bit (lt-leb (r a b) ρ less), ap bit (le-leb (r a b) (r a b) (omega arith))))
+    where
+      higher : (c d : ℕ) → stands 𝓜 s r ρ c d ≡ true → stands 𝓜 s r (r a b) c d ≡ true
+      higher c d t =
+          let at-most = leb-true (r c d) ρ (and-r (isLive (entry 𝓜 s c d)) (leb (r c d) ρ) t) in
+          and-i (and-l (isLive (entry 𝓜 s c d)) (leb (r c d) ρ) t) (le-leb (r c d) (r a b) (omega arith))
 
 module _ (𝓜 : Machine) (L : Laws 𝓜) (s : Tables) (F : Facts 𝓜 s) (r : ℕ → ℕ → ℕ) (R : Ranked 𝓜 s r) where
   -- every walk comes to a VAR or a VAL, in fewer steps than there are live entries
@@ -116,8 +118,9 @@ module _ (𝓜 : Machine) (L : Laws 𝓜) (s : Tables) (F : Facts 𝓜 s) (r : �
           let step = entry-leads 𝓜 s F a b a′ b′ l q in
           let live = follow-place 𝓜 s F (At a b) a′ b′ step in
           let less = standing-falls 𝓜 L s (F .sized) r a b (r a′ b′) l (R .falls a b a′ b′ step) in
-          let rest = rec a′ b′ (omega arith) live in
-          record { steps = suc (rest .steps); owner = rest .owner; number = rest .number; few = omega (arith, rest .few); there = ap (ahead 𝓜 s (rest .steps)) step ∙ rest .there; end-plain = rest .end-plain }
+          let y = rec a′ b′ (omega arith) live in
+          let there = ap (ahead 𝓜 s (y .steps)) step ∙ y .there in
+          record { steps = suc (y .steps); owner = y .owner; number = y .number; few = omega (arith, y .few); there = there; end-plain = y .end-plain }
 
   pub comes-to-end : (a b : ℕ) → isLive (entry 𝓜 s a b) ≡ true → ComesToEnd a b
   comes-to-end a b l = comes-within (standing 𝓜 s r (r a b)) a b (omega arith) l

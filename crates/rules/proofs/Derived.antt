@@ -21,7 +21,7 @@ use Rattle.tables.specs.Parts.{isFree, isReading, isAsking, exNames, namedBy, i
 use Rattle.tables.specs.Look.{cell, entry, end, endKind, message}
 use Rattle.rules.specs.Chains.{through, follow, ahead}
 use Rattle.rules.specs.Sound.{readsFor, asksFor, readsOf, asksOf, cellHolds, messageHolds, held}
-use Rattle.rules.specs.Facts.{CellFact, EntryFact, Facts, ReadAhead, Reads}
+use Rattle.rules.specs.Facts.{CellFact, EntryFact, Facts, ReadAhead, Reads, MessageFact}
 use Rattle.rules.proofs.Inside.{entry-inside, cell-total, message-total}
 use Rattle.rules.proofs.Named.{eq-both, nowhere-at, named-ex, IsLive, the-live, the-ex-of}
 
@@ -45,8 +45,8 @@ module _ (𝓜 : Machine) (s : Tables) where
   message-held k o e = omega (arith, message-total 𝓜 s (messageHolds 𝓜 s o e) refl k)
 
   -- an EX's weight, and a message's, is held on its entry
-  pub ex-held : (w c o e n : ℕ) (st : Status) (a : Bool) → cell 𝓜 s w c ≡ Ex o e n st a → n ≤ held 𝓜 s o e
-  ex-held w c o e n st a x =
+  pub ex-held : (w c : ℕ) {o e n : ℕ} {st : Status} {a : Bool} → cell 𝓜 s w c ≡ Ex o e n st a → n ≤ held 𝓜 s o e
+  ex-held w c {o} {e} {n} x =
       let h : cellHolds 𝓜 s o e (cell 𝓜 s w c) ≡ n = rw (x, eq-both o e) in
       omega (arith, cell-held w c o e)
 
@@ -58,11 +58,11 @@ module _ (𝓜 : Machine) (s : Tables) where
     pub held-live : (o e : ℕ) → 1 ≤ held 𝓜 s o e → isLive (entry 𝓜 s o e) ≡ true
     held-live o e h = weight-live (entry 𝓜 s o e) (omega (arith, weighed o e))
 
-    pub ex-live : ((w c : ℕ) → CellFact 𝓜 s w (cell 𝓜 s w c)) → (w c o e n : ℕ) (st : Status) (a : Bool) → cell 𝓜 s w c ≡ Ex o e n st a
+    pub ex-live : ((w c : ℕ) → CellFact 𝓜 s w (cell 𝓜 s w c)) → (w c : ℕ) {o e n : ℕ} {st : Status} {a : Bool} → cell 𝓜 s w c ≡ Ex o e n st a
         → isLive (entry 𝓜 s o e) ≡ true
-    ex-live cells w c o e n st a x =
+    ex-live cells w c {o} {e} {n} {st} {a} x =
         let f : CellFact 𝓜 s w (Ex o e n st a) = rw x at (cells w c) in
-        held-live o e (omega (arith, ex-held w c o e n st a x, f .2))
+        held-live o e (omega (arith, ex-held w c x, f .2))
 
 -- a place that, where it is an entry, is a live one
 abbrev pub LivePlace : Machine → Tables → Place → Type 0
@@ -89,6 +89,13 @@ module _ (𝓜 : Machine) (s : Tables) (F : Facts 𝓜 s) where
   pub live-fact : (o e : ℕ) (l : IsLive (entry 𝓜 s o e)) → EntryFact 𝓜 s o (Live (l .cell) (l .weight) (l .tainted))
   live-fact o e l = rw (l .is) at (F .entries o e)
 
+  -- what is true of a cell, and of a message, that is this
+  pub cell-fact : (w c : ℕ) {k : Kind} → cell 𝓜 s w c ≡ k → CellFact 𝓜 s w k
+  cell-fact w c q = subst (CellFact 𝓜 s w) q (F .cells w c)
+
+  pub message-fact : (k : ℕ) {m : Message} → message s k ≡ m → MessageFact 𝓜 s m
+  message-fact k q = subst (MessageFact 𝓜 s) q (F .messages k)
+
   -- a live entry belongs to a worker in use, and its number is an entry's
   pub live-used : (o e : ℕ) → isLive (entry 𝓜 s o e) ≡ true → (o < s .p) × (e < 𝓜 .entries)
   live-used o e h =
@@ -110,7 +117,7 @@ module _ (𝓜 : Machine) (s : Tables) (F : Facts 𝓜 s) where
   pub names-live : (w c o e : ℕ) → exNames o e (cell 𝓜 s w c) ≡ true → isLive (entry 𝓜 s o e) ≡ true
   names-live w c o e h =
       let x = the-ex-of o e (cell 𝓜 s w c) h in
-      ex-live 𝓜 s (F .weighed) (F .cells) w c o e (x .weight) (x .status) (x .asking) (x .is)
+      ex-live 𝓜 s (F .weighed) (F .cells) w c (x .is)
 
   -- ---- the cell of a message that has one
   -- where as many messages have the test as a mark says, 1 or none, the mark is set if one has it
@@ -131,7 +138,7 @@ module _ (𝓜 : Machine) (s : Tables) (F : Facts 𝓜 s) where
   pub named-place : (w c : ℕ) → LivePlace 𝓜 s (namedBy (cell 𝓜 s w c))
   named-place w c o e h =
       let x = named-ex o e (cell 𝓜 s w c) h in
-      ex-live 𝓜 s (F .weighed) (F .cells) w c o e (x .weight) (x .status) (x .asking) (x .is)
+      ex-live 𝓜 s (F .weighed) (F .cells) w c (x .is)
 
   pub follow-place : (p : Place) → LivePlace 𝓜 s (follow 𝓜 s p)
   unfolding follow endKind

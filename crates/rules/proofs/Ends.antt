@@ -13,14 +13,17 @@ use Rattle.tables.specs.Machine.{Machine, Tables}
 use Rattle.tables.specs.Parts.{isFree, isVar, isVal, isEx, namedBy, isLive, entryNames, cellOf}
 use Rattle.tables.specs.Look.{cell, entry, endKind}
 use Rattle.rules.specs.Chains.{entryEnd, follow}
-use Rattle.rules.specs.Facts.{CellFact, Facts}
+use Rattle.rules.specs.Facts.{Facts}
 use Rattle.rules.proofs.Named.{the-ex, the-live}
 use Rattle.rules.proofs.Walks.{follow-live}
-use Rattle.rules.proofs.Derived.{live-fact}
+use Rattle.rules.proofs.Derived.{live-fact, cell-fact}
 use Rattle.rules.proofs.Kept.{end-self, end-ref}
 
+abbrev pub VarOrVal : Kind → Type 0
+VarOrVal k = (isVar k || isVal k) ≡ true
+
 pub data EndIs (k : Kind) : Type 0 where
-  plain : (isVar k || isVal k) ≡ true → EndIs k
+  plain : VarOrVal k → EndIs k
   leads : (a b : ℕ) → namedBy k ≡ At a b → EndIs k
 
 module _ (𝓜 : Machine) (s : Tables) (F : Facts 𝓜 s) where
@@ -36,9 +39,7 @@ module _ (𝓜 : Machine) (s : Tables) (F : Facts 𝓜 s) where
       go Free q t = absurd-bool refl t
       go Var q t = plain (ap (λ (k : Kind). isVar k || isVal k) (end-self 𝓜 s o d Var q refl))
       go (Val n) q t = plain (ap (λ (k : Kind). isVar k || isVal k) (end-self 𝓜 s o d (Val n) q refl))
-      go (Ref y) q t =
-          let f : CellFact 𝓜 s o (Ref y) = subst (CellFact 𝓜 s o) q (F .cells o d) in
-          ex-end (endKind 𝓜 s o d) (ap isEx (end-ref 𝓜 s o d y q) ∙ f .1)
+      go (Ref y) q t = ex-end (endKind 𝓜 s o d) (ap isEx (end-ref 𝓜 s o d y q) ∙ cell-fact 𝓜 s F o d q .1)
       go (Ex a b n st w) q t = ex-end (endKind 𝓜 s o d) (ap isEx (end-self 𝓜 s o d (Ex a b n st w) q refl))
 
   pub entry-end-is : (o e : ℕ) → isLive (entry 𝓜 s o e) ≡ true → EndIs (entryEnd 𝓜 s o (entry 𝓜 s o e))
@@ -50,12 +51,12 @@ module _ (𝓜 : Machine) (s : Tables) (F : Facts 𝓜 s) where
   pub entry-leads : (o e a b : ℕ) → isLive (entry 𝓜 s o e) ≡ true → namedBy (entryEnd 𝓜 s o (entry 𝓜 s o e)) ≡ At a b → follow 𝓜 s (At o e) ≡ At a b
   entry-leads o e a b t q =
       let l = the-live (entry 𝓜 s o e) t in
-      follow-live 𝓜 s o e (l .cell) (l .weight) (l .tainted) (l .is)
+      follow-live 𝓜 s o e (l .is)
       ∙ sym (ap (λ x. namedBy (entryEnd 𝓜 s o x)) (l .is))
       ∙ q
 
   -- ---- a live entry whose cell has a VAR or a VAL as its end names that VAR or VAL itself
-  own-end : (o d : ℕ) → (isVar (endKind 𝓜 s o d) || isVal (endKind 𝓜 s o d)) ≡ true → endKind 𝓜 s o d ≡ cell 𝓜 s o d
+  own-end : (o d : ℕ) → VarOrVal (endKind 𝓜 s o d) → endKind 𝓜 s o d ≡ cell 𝓜 s o d
   own-end o d t = go (cell 𝓜 s o d) refl
     where
       go : (k : Kind) → cell 𝓜 s o d ≡ k → endKind 𝓜 s o d ≡ cell 𝓜 s o d
@@ -63,23 +64,14 @@ module _ (𝓜 : Machine) (s : Tables) (F : Facts 𝓜 s) where
       go Var q = end-self 𝓜 s o d Var q refl ∙ sym q
       go (Val n) q = end-self 𝓜 s o d (Val n) q refl ∙ sym q
       go (Ref y) q =
-          let f : CellFact 𝓜 s o (Ref y) = subst (CellFact 𝓜 s o) q (F .cells o d) in
-          absurd-bool t (plain-not-ex (endKind 𝓜 s o d) (ap isEx (end-ref 𝓜 s o d y q) ∙ f .1))
-        where
-          plain-not-ex : (k : Kind) → isEx k ≡ true → (isVar k || isVal k) ≡ false
-          plain-not-ex Free u = absurd-bool u refl
-          plain-not-ex Var u = absurd-bool u refl
-          plain-not-ex (Val n) u = absurd-bool u refl
-          plain-not-ex (Ref z) u = absurd-bool u refl
-          plain-not-ex (Ex a b n st w) u = refl
+          let x = the-ex (endKind 𝓜 s o d) (ap isEx (end-ref 𝓜 s o d y q) ∙ cell-fact 𝓜 s F o d q .1) in
+          absurd-bool t (ap (λ (k : Kind). isVar k || isVal k) (x .is))
       go (Ex a b n st w) q = end-self 𝓜 s o d (Ex a b n st w) q refl ∙ sym q
 
-  pub own-context : (a b : ℕ) → isLive (entry 𝓜 s a b) ≡ true
-      → (isVar (entryEnd 𝓜 s a (entry 𝓜 s a b)) || isVal (entryEnd 𝓜 s a (entry 𝓜 s a b))) ≡ true
-      → (entryNames (cellOf (entry 𝓜 s a b)) (entry 𝓜 s a b) ≡ true) × ((isVar (cell 𝓜 s a (cellOf (entry 𝓜 s a b))) || isVal (cell 𝓜 s a (cellOf (entry 𝓜 s a b)))) ≡ true)
+  pub own-context : (a b : ℕ) → isLive (entry 𝓜 s a b) ≡ true → VarOrVal (entryEnd 𝓜 s a (entry 𝓜 s a b))
+      → (entryNames (cellOf (entry 𝓜 s a b)) (entry 𝓜 s a b) ≡ true) × VarOrVal (cell 𝓜 s a (cellOf (entry 𝓜 s a b)))
   own-context a b live = go (entry 𝓜 s a b) live
     where
-      go : (x : Holding) → isLive x ≡ true → (isVar (entryEnd 𝓜 s a x) || isVal (entryEnd 𝓜 s a x)) ≡ true
-          → (entryNames (cellOf x) x ≡ true) × ((isVar (cell 𝓜 s a (cellOf x)) || isVal (cell 𝓜 s a (cellOf x))) ≡ true)
+      go : (x : Holding) → isLive x ≡ true → VarOrVal (entryEnd 𝓜 s a x) → (entryNames (cellOf x) x ≡ true) × VarOrVal (cell 𝓜 s a (cellOf x))
       go Unused l t = absurd-bool l refl
       go (Live d n u) l t = (eq-eqb d d refl, sym (ap (λ (k : Kind). isVar k || isVal k) (own-end a d t)) ∙ t)

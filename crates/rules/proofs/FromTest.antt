@@ -21,7 +21,7 @@ use Rattle.tables.specs.declared.Message.the-variants.{Empty, Reference, Releas
 use Rattle.tables.specs.Machine.{Machine, Tables}
 use Rattle.tables.specs.Parts.{isFree, readingOf, isReading, isAsking, exNames, namedBy, isLive, entryNames, entryWeight, goesTo}
 use Rattle.tables.specs.Look.{cell, entry, endKind, booked, freeCells, message}
-use Rattle.rules.specs.Sound.{readsFor, asksFor, eachCell, kindInRange, messageInRange, cellInRange, entryInRange, exesNaming, cellNames, entriesNaming, varValOrSafe, entryNamesCell, readsOf, asksOf, cellAwaited, reached, messageHasIts, cellHolds, messageHolds, held, entryWeighs, roomForBooked, point1, point2, point3, point4, point5, point6, sound}
+use Rattle.rules.specs.Sound.{readsFor, asksFor, eachCell, kindInRange, messageInRange, cellInRange, entryInRange, exesNaming, cellNames, entriesNaming, varValOrSafe, entryNamesCell, readsOf, asksOf, cellAwaited, reached, messageHasIts, cellHolds, messageHolds, held, entryWeighs, roomForBooked, point1, point2, point3, point4, point5, point6, sound, eachEntry, eachMessage}
 use Rattle.rules.specs.Machines.{Laws, Sized}
 use Rattle.rules.specs.Facts.{CellFact, EntryFact, MessageFact, Facts, ReadAhead, Reads}
 use Rattle.rules.proofs.Inside.{cell-inside, entry-inside, each-cell-at, each-entry-at, each-message-at, flat-none}
@@ -35,27 +35,19 @@ in-use false r h = h
 
 module _ (𝓜 : Machine) (L : Laws 𝓜) (s : Tables) (z : Sized 𝓜 s) (h : sound 𝓜 s ≡ true) where
   -- ---- the six points
-  p2-6 : (point2 𝓜 s && (point3 𝓜 s && (point4 𝓜 s && (point5 𝓜 s && point6 𝓜 s)))) ≡ true
+  points : (point1 𝓜 s ≡ true) × (point2 𝓜 s ≡ true) × (point3 𝓜 s ≡ true) × (point4 𝓜 s ≡ true) × (point5 𝓜 s ≡ true) × (point6 𝓜 s ≡ true)
   unfolding sound
-  p2-6 = and-r (point1 𝓜 s) (point2 𝓜 s && (point3 𝓜 s && (point4 𝓜 s && (point5 𝓜 s && point6 𝓜 s)))) h
+  points =
+      let p2-6 = and-r (point1 𝓜 s) _ h in
+      let p3-6 = and-r (point2 𝓜 s) _ p2-6 in
+      let p4-6 = and-r (point3 𝓜 s) _ p3-6 in
+      let p5-6 = and-r (point4 𝓜 s) _ p4-6 in
+      (and-l _ _ h, and-l _ _ p2-6, and-l _ _ p3-6, and-l _ _ p4-6, and-l _ _ p5-6, and-r (point5 𝓜 s) _ p5-6)
 
-  p3-6 : (point3 𝓜 s && (point4 𝓜 s && (point5 𝓜 s && point6 𝓜 s))) ≡ true
-  p3-6 = and-r (point2 𝓜 s) (point3 𝓜 s && (point4 𝓜 s && (point5 𝓜 s && point6 𝓜 s))) p2-6
-
-  p4-6 : (point4 𝓜 s && (point5 𝓜 s && point6 𝓜 s)) ≡ true
-  p4-6 = and-r (point3 𝓜 s) (point4 𝓜 s && (point5 𝓜 s && point6 𝓜 s)) p3-6
-
-  p5-6 : (point5 𝓜 s && point6 𝓜 s) ≡ true
-  p5-6 = and-r (point4 𝓜 s) (point5 𝓜 s && point6 𝓜 s) p4-6
-
-  p1 : (leb (s .p) (𝓜 .workers) ≡ true) × (eachCell 𝓜 s (cellInRange 𝓜 s) ≡ true) × (Rattle.rules.specs.Sound.eachEntry 𝓜 s (entryInRange 𝓜 s) ≡ true) × (Rattle.rules.specs.Sound.eachMessage 𝓜 s (messageInRange 𝓜 s) ≡ true)
-  unfolding sound point1
-  p1 =
-      and-4 (leb (s .p) (𝓜 .workers))
-      (eachCell 𝓜 s (cellInRange 𝓜 s))
-      (Rattle.rules.specs.Sound.eachEntry 𝓜 s (entryInRange 𝓜 s))
-      (Rattle.rules.specs.Sound.eachMessage 𝓜 s (messageInRange 𝓜 s))
-      (and-l (point1 𝓜 s) (point2 𝓜 s && (point3 𝓜 s && (point4 𝓜 s && (point5 𝓜 s && point6 𝓜 s)))) h)
+  p1 : (leb (s .p) (𝓜 .workers) ≡ true) × (eachCell 𝓜 s (cellInRange 𝓜 s) ≡ true) × (eachEntry 𝓜 s (entryInRange 𝓜 s) ≡ true)
+      × (eachMessage 𝓜 s (messageInRange 𝓜 s) ≡ true)
+  unfolding point1
+  p1 = and-4 _ _ _ _ (points .0)
 
   -- ---- each test at every number
   in-range : (w c : ℕ) → cellInRange 𝓜 s w c (cell 𝓜 s w c) ≡ true
@@ -69,32 +61,23 @@ module _ (𝓜 : Machine) (L : Laws 𝓜) (s : Tables) (z : Sized 𝓜 s) (h : s
 
   names : (w c : ℕ) → cellNames 𝓜 s w c (cell 𝓜 s w c) ≡ true
   unfolding point2
-  names =
-      each-cell-at 𝓜 s L z (cellNames 𝓜 s) (λ w c. refl)
-      (and-l (point2 𝓜 s) (point3 𝓜 s && (point4 𝓜 s && (point5 𝓜 s && point6 𝓜 s))) p2-6)
+  names = each-cell-at 𝓜 s L z (cellNames 𝓜 s) (λ w c. refl) (points .1)
 
   names-cell : (w e : ℕ) → entryNamesCell 𝓜 s w e (entry 𝓜 s w e) ≡ true
   unfolding point3
-  names-cell =
-      each-entry-at 𝓜 s L z (entryNamesCell 𝓜 s) (λ w e. refl) (and-l (point3 𝓜 s) (point4 𝓜 s && (point5 𝓜 s && point6 𝓜 s)) p3-6)
-
-  p4 : (eachCell 𝓜 s (cellAwaited 𝓜 s) && Rattle.rules.specs.Sound.eachMessage 𝓜 s (messageHasIts 𝓜 s)) ≡ true
-  unfolding point4
-  p4 = and-l (point4 𝓜 s) (point5 𝓜 s && point6 𝓜 s) p4-6
+  names-cell = each-entry-at 𝓜 s L z (entryNamesCell 𝓜 s) (λ w e. refl) (points .2)
 
   awaited : (w c : ℕ) → cellAwaited 𝓜 s w c (cell 𝓜 s w c) ≡ true
-  awaited =
-      each-cell-at 𝓜 s L z (cellAwaited 𝓜 s) (λ w c. refl)
-      (and-l (eachCell 𝓜 s (cellAwaited 𝓜 s)) (Rattle.rules.specs.Sound.eachMessage 𝓜 s (messageHasIts 𝓜 s)) p4)
+  unfolding point4
+  awaited = each-cell-at 𝓜 s L z (cellAwaited 𝓜 s) (λ w c. refl) (and-l _ _ (points .3))
 
   has-its : (k : ℕ) → messageHasIts 𝓜 s (message s k) ≡ true
-  has-its =
-      each-message-at 𝓜 s (messageHasIts 𝓜 s) refl
-      (and-r (eachCell 𝓜 s (cellAwaited 𝓜 s)) (Rattle.rules.specs.Sound.eachMessage 𝓜 s (messageHasIts 𝓜 s)) p4)
+  unfolding point4
+  has-its = each-message-at 𝓜 s (messageHasIts 𝓜 s) refl (and-r (eachCell 𝓜 s (cellAwaited 𝓜 s)) _ (points .3))
 
   weighs : (o e : ℕ) → entryWeighs 𝓜 s o e (entry 𝓜 s o e) ≡ true
   unfolding point5
-  weighs = each-entry-at 𝓜 s L z (entryWeighs 𝓜 s) (λ o e. refl) (and-l (point5 𝓜 s) (point6 𝓜 s) p5-6)
+  weighs = each-entry-at 𝓜 s L z (entryWeighs 𝓜 s) (λ o e. refl) (points .4)
 
   -- ---- cells
   ex-parts : (w c o e n : ℕ) (st : Status) (a : Bool) → cellNames 𝓜 s w c (Ex o e n st a) ≡ true
@@ -145,7 +128,8 @@ module _ (𝓜 : Machine) (L : Laws 𝓜) (s : Tables) (z : Sized 𝓜 s) (h : s
   unfolding entriesNaming
   entry-single w e f c t u =
       let x = the-entry-of c (entry 𝓜 s w e) t in
-      let q = and-3 (not (isFree (cell 𝓜 s w c))) (leb (entriesNaming 𝓜 s w c) 1) (x .tainted || varValOrSafe 𝓜 s w (endKind 𝓜 s w c)) (ap (entryNamesCell 𝓜 s w e) (sym (x .is)) ∙ names-cell w e) in
+      let own = ap (entryNamesCell 𝓜 s w e) (sym (x .is)) ∙ names-cell w e in
+      let q = and-3 (not (isFree (cell 𝓜 s w c))) (leb (entriesNaming 𝓜 s w c) 1) (x .tainted || varValOrSafe 𝓜 s w (endKind 𝓜 s w c)) own in
       count-unique (𝓜 .entries) e f (λ b. entryNames c (entry 𝓜 s w b)) (leb-true (entriesNaming 𝓜 s w c) 1 (q .1))
       (entry-inside 𝓜 s w e (names-live-entry c (entry 𝓜 s w e) t) .1)
       (entry-inside 𝓜 s w f (names-live-entry c (entry 𝓜 s w f) u) .1)
@@ -181,25 +165,16 @@ module _ (𝓜 : Machine) (L : Laws 𝓜) (s : Tables) (z : Sized 𝓜 s) (h : s
       let q = both-eq r w d c u in
       rw (← q .0, ← q .1) t
 
-  reading-its : (w c : ℕ) (m : Message) → messageHasIts 𝓜 s m ≡ true → readsFor w c m ≡ true → isReading (cell 𝓜 s w c) ≡ true
-  reading-its w c Empty t u = absurd-bool u refl
-  reading-its w c (Reference to o e n) t u = absurd-bool u refl
-  reading-its w c (Release o e n) t u = absurd-bool u refl
-  reading-its w c (Read r d o e) t u =
-      its-cell isReading r d w c u (and-3 (isReading (cell 𝓜 s r d)) (isLive (entry 𝓜 s o e)) (reached 𝓜 s (namedBy (cell 𝓜 s r d)) o e) t .0)
-  reading-its w c (Answer r d n) t u = its-cell isReading r d w c u t
-  reading-its w c (Ask a d o e) t u = absurd-bool u refl
-  reading-its w c (Supply a d n) t u = absurd-bool u refl
-
-  asking-its : (w c : ℕ) (m : Message) → messageHasIts 𝓜 s m ≡ true → asksFor w c m ≡ true → isAsking (cell 𝓜 s w c) ≡ true
-  asking-its w c Empty t u = absurd-bool u refl
-  asking-its w c (Reference to o e n) t u = absurd-bool u refl
-  asking-its w c (Release o e n) t u = absurd-bool u refl
-  asking-its w c (Read r d o e) t u = absurd-bool u refl
-  asking-its w c (Answer r d n) t u = absurd-bool u refl
-  asking-its w c (Ask a d o e) t u =
-      its-cell isAsking a d w c u (and-3 (isAsking (cell 𝓜 s a d)) (isLive (entry 𝓜 s o e)) (exNames o e (cell 𝓜 s a d)) t .0)
-  asking-its w c (Supply a d n) t u = its-cell isAsking a d w c u t
+  -- by what a message is of this cell
+  its : (w c : ℕ) (m : Message) → messageHasIts 𝓜 s m ≡ true
+      → (readsFor w c m ≡ true → isReading (cell 𝓜 s w c) ≡ true) × (asksFor w c m ≡ true → isAsking (cell 𝓜 s w c) ≡ true)
+  its w c Empty t = ((λ u. absurd-bool u refl), (λ u. absurd-bool u refl))
+  its w c (Reference to o e n) t = ((λ u. absurd-bool u refl), (λ u. absurd-bool u refl))
+  its w c (Release o e n) t = ((λ u. absurd-bool u refl), (λ u. absurd-bool u refl))
+  its w c (Read r d o e) t = ((λ u. its-cell isReading r d w c u (and-3 _ _ _ t .0)), (λ u. absurd-bool u refl))
+  its w c (Answer r d n) t = ((λ u. its-cell isReading r d w c u t), (λ u. absurd-bool u refl))
+  its w c (Ask a d o e) t = ((λ u. absurd-bool u refl), (λ u. its-cell isAsking a d w c u (and-3 _ _ _ t .0)))
+  its w c (Supply a d n) t = ((λ u. absurd-bool u refl), (λ u. its-cell isAsking a d w c u t))
 
   -- a count over the messages is 0 where no message has the test
   none-of : (q : Message → Bool) → ((k : ℕ) → q (message s k) ≡ false) → total (λ x. bit (q (x .message))) (s .slots) ≡ 0
@@ -228,13 +203,13 @@ module _ (𝓜 : Machine) (L : Laws 𝓜) (s : Tables) (z : Sized 𝓜 s) (h : s
   unfolding readsOf
   one-read w c =
       one-or-none (readsFor w c) (isReading (cell 𝓜 s w c)) (waits-one w c (cell 𝓜 s w c) (awaited w c) .0)
-      (λ k. reading-its w c (message s k) (has-its k))
+      (λ k. its w c (message s k) (has-its k) .0)
 
   one-ask : (w c : ℕ) → asksOf 𝓜 s w c ≡ bit (isAsking (cell 𝓜 s w c))
   unfolding asksOf
   one-ask w c =
       one-or-none (asksFor w c) (isAsking (cell 𝓜 s w c)) (waits-one w c (cell 𝓜 s w c) (awaited w c) .1)
-      (λ k. asking-its w c (message s k) (has-its k))
+      (λ k. its w c (message s k) (has-its k) .1)
 
   -- ---- weights: nothing is held on a free entry
   module _ (o e : ℕ) (unused : isLive (entry 𝓜 s o e) ≡ false) where
@@ -291,13 +266,16 @@ module _ (𝓜 : Machine) (L : Laws 𝓜) (s : Tables) (z : Sized 𝓜 s) (h : s
   unfolding point6 booked
   all-room w = go (ltb w (s .p)) refl
     where
+      -- nothing goes to a worker that is not in use
+      outside : s .p ≤ w → (k : ℕ) → goesTo w (message s k) ≡ true → ⊥
+      outside le k u = omega (arith, goes-in w (message s k) (message-in-range k) u)
+
       go : (b : Bool) → ltb w (s .p) ≡ b → booked s w ≤ freeCells 𝓜 s w
       go true t =
           leb-true (booked s w) (freeCells 𝓜 s w)
-          (all-at (s .p) (roomForBooked 𝓜 s) (and-r (point5 𝓜 s) (point6 𝓜 s) p5-6) w (ltb-true w (s .p) t))
+          (all-at (s .p) (roomForBooked 𝓜 s) (points .5) w (ltb-true w (s .p) t))
       go false t =
-          let none : total (λ x. bit (goesTo w (x .message))) (s .slots) ≡ 0 = none-of (goesTo w) (λ k. not-yes (λ u. absurd (let i = goes-in w (message s k) (message-in-range k) u in let f = ltb-false w (s .p) t in omega arith))) in
-          omega arith
+          omega (arith, none-of (goesTo w) (λ k. not-yes (outside (ltb-false w (s .p) t) k)))
 
   pub sound-facts : Facts 𝓜 s
   sound-facts =

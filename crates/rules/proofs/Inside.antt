@@ -98,13 +98,17 @@ module _ (𝓜 : Machine) (s : Tables) where
         grid-of (𝓜 .workers) (𝓜 .entries) (s .entries) (record { holding = Unused }) (L .entries-some) (z .entries-long) (λ w e x. q w e (x .holding))
         (λ w e a b. rw (entry-in 𝓜 s w e a b) at (h w e))
 
+  -- past the last slot a message is empty
+  pub message-beyond : (k : ℕ) → ltb k (length (s .slots)) ≡ false → message s k ≡ Empty
+  message-beyond k e =
+      ap (λ (x : Slot). x .message) (List·getD-eq-default (s .slots) (record { message = Empty }) {n = k} (ltb-false k (length (s .slots)) e))
+
   pub each-message-at : (q : Message → Bool) → q Empty ≡ true → eachMessage 𝓜 s q ≡ true → (k : ℕ) → q (message s k) ≡ true
   each-message-at q out h k = go (ltb k (length (s .slots))) refl
     where
       go : (b : Bool) → ltb k (length (s .slots)) ≡ b → q (message s k) ≡ true
       go true e = each-at (λ i (x : Slot). q (x .message)) (s .slots) (record { message = Empty }) h k (ltb-true k (length (s .slots)) e)
-      go false e =
-          ap (λ (x : Slot). q (x .message)) (List·getD-eq-default (s .slots) (record { message = Empty }) {n = k} (ltb-false k (length (s .slots)) e)) ∙ out
+      go false e = ap q (message-beyond k e) ∙ out
 
   pub each-message-of : (q : Message → Bool) → ((k : ℕ) → q (message s k) ≡ true) → eachMessage 𝓜 s q ≡ true
   each-message-of q h = each-of (λ i (x : Slot). q (x .message)) (s .slots) (record { message = Empty }) (λ k l. h k)

@@ -3,7 +3,7 @@ use Prim.Native.Nat.{ℕ}
 use native.Mathlib.Omega.{arith}
 use mathlib.Core.Path.{_≡_, refl, sym, ap, _∙_}
 use mathlib.Core.Bool.{Bool, true, false, _&&_, _||_, not, cond}
-use mathlib.Core.Logic.{_⊎_, inl, inr}
+use mathlib.Core.Logic.{⊎-elim}
 use lib.Dec.{eqb, ltb}
 use borrow.Author.Tests.{eq-eqb}
 use Rattle.numbers.specs.Below.{bit}
@@ -11,6 +11,7 @@ use Rattle.numbers.specs.Tests.{absurd-bool, or-l, or-r}
 use Rattle.numbers.specs.ListLaws.{total-cong}
 use Rattle.tables.specs.declared.Slot.{Slot}
 use Rattle.tables.specs.declared.Status.{Status}
+use Rattle.tables.specs.declared.Status.the-variants.{Idle}
 use Rattle.tables.specs.declared.Place.the-variants.{Nowhere}
 use Rattle.tables.specs.declared.Kind.{Kind}
 use Rattle.tables.specs.declared.Kind.the-variants.{Free, Var, Val, Ref, Ex}
@@ -23,9 +24,9 @@ use Rattle.tables.specs.Parts.{onEx, readingOf, isFree, isVar, isVal, isEx, isR
 use Rattle.tables.specs.Look.{cell, entry, end, endKind, safe, exported, busy, booked, message}
 use Rattle.rules.specs.Sound.{readsFor, asksFor, varValOrSafe, readsOf, asksOf, cellHolds, messageHolds, held}
 use Rattle.rules.specs.Facts.{CellFact, EntryFact, MessageFact, Facts}
-use Rattle.rules.proofs.Named.{eq-both, ex-not-var, the-ex, the-ex-of, ExOf}
+use Rattle.rules.proofs.Named.{eq-both, ex-not-var, the-ex, the-ex-of, ExOf, on-ex, not-on-ex}
 use Rattle.rules.proofs.Busy.{exported-by, referred-by, busy-exported, busy-referred, busy-reading, busy-asking}
-use Rattle.rules.proofs.Derived.{ex-live, asking-cell}
+use Rattle.rules.proofs.Derived.{ex-live, asking-cell, cell-fact}
 use Rattle.rules.specs.Move.{Move, next, shown, VarBecomes, stays, bound, Keeps}
 use Rattle.rules.proofs.Stored.{Stored, stored-each, stored-all, stored-number, stored-once}
 use Rattle.rules.proofs.Next.{cell-stored, entry-stored, messages-all, next-sized, cells-total, slots-total, free-count}
@@ -76,77 +77,84 @@ module _ (𝓜 : Machine) (t : Tables) where
 
 -- the facts of s, and a move that keeps them
 module _ (𝓜 : Machine) (s : Tables) (h : Move) (F : Facts 𝓜 s) (K : Keeps 𝓜 s h) where
-  s′ : Tables
+  abbrev s′ : Tables
   s′ = next 𝓜 s h
 
   -- the cells, and the entries, before and after
-  cells-changed : Stored (cell 𝓜 s) (cell 𝓜 (next 𝓜 s h)) (h .w) (h .c) (h .k₀) (h .k)
+  cells-changed : Stored (cell 𝓜 s) (cell 𝓜 s′) (h .w) (h .c) (h .k₀) (h .k)
   cells-changed = cell-stored 𝓜 s h (F .sized) (K .placed)
 
-  entries-changed : Stored (entry 𝓜 s) (entry 𝓜 (next 𝓜 s h)) (h .o) (h .e) (h .x₀) (h .x)
+  entries-changed : Stored (entry 𝓜 s) (entry 𝓜 s′) (h .o) (h .e) (h .x₀) (h .x)
   entries-changed = entry-stored 𝓜 s h (F .sized) (K .placed)
 
   -- ---- a busy cell that is no VAR looks the same
-  pub shown-kept : (v d : ℕ) → busy 𝓜 s v d ≡ true → isVar (cell 𝓜 s v d) ≡ false → shown (cell 𝓜 (next 𝓜 s h) v d) ≡ shown (cell 𝓜 s v d)
+  pub shown-kept : (v d : ℕ) → busy 𝓜 s v d ≡ true → isVar (cell 𝓜 s v d) ≡ false → shown (cell 𝓜 s′ v d) ≡ shown (cell 𝓜 s v d)
   shown-kept =
       stored-each cells-changed (λ v d x y. busy 𝓜 s v d ≡ true → isVar x ≡ false → shown y ≡ shown x) (K .busy-kept) (λ v d f b nv. refl)
 
   asking-shown : (v d : ℕ) → isAsking (cell 𝓜 s v d) ≡ true → shown (cell 𝓜 s′ v d) ≡ shown (cell 𝓜 s v d)
-  unfolding s′
   asking-shown v d t = shown-kept v d (busy-asking 𝓜 s v d t) (ex-not-var (λ o e n st a. a) (cell 𝓜 s v d) t)
 
-  pub reading-shown : (v d : ℕ) → isReading (cell 𝓜 s v d) ≡ true → shown (cell 𝓜 (next 𝓜 s h) v d) ≡ shown (cell 𝓜 s v d)
+  pub reading-shown : (v d : ℕ) → isReading (cell 𝓜 s v d) ≡ true → shown (cell 𝓜 s′ v d) ≡ shown (cell 𝓜 s v d)
   reading-shown v d t = shown-kept v d (busy-reading 𝓜 s v d t) (ex-not-var (λ o e n st a. readingOf st) (cell 𝓜 s v d) t)
 
-  pub exported-shown : (v d : ℕ) → exported 𝓜 s v d ≡ true → isVar (cell 𝓜 s v d) ≡ false → shown (cell 𝓜 (next 𝓜 s h) v d) ≡ shown (cell 𝓜 s v d)
+  pub exported-shown : (v d : ℕ) → exported 𝓜 s v d ≡ true → isVar (cell 𝓜 s v d) ≡ false → shown (cell 𝓜 s′ v d) ≡ shown (cell 𝓜 s v d)
   exported-shown v d x nv = shown-kept v d (busy-exported 𝓜 s v d x) nv
 
+  -- and stays what it is, where it is neither a VAR nor an EX
+  pub exported-same : (v d : ℕ) (k : Kind) → exported 𝓜 s v d ≡ true → cell 𝓜 s v d ≡ k → isVar k ≡ false → isEx k ≡ false → cell 𝓜 s′ v d ≡ k
+  exported-same v d k x q nv ne =
+      shown-plain (cell 𝓜 s′ v d) k ne
+      (exported-shown v d x (ap isVar q ∙ nv) ∙ ap shown q ∙ not-on-ex k (λ o e n st a. Ex o e 0 Idle false) k ne)
+
   -- an EX that a REF names looks the same
-  pub referred-shown : (v d y : ℕ) → cell 𝓜 s v d ≡ Ref y → isEx (cell 𝓜 s v y) ≡ true → shown (cell 𝓜 (next 𝓜 s h) v y) ≡ shown (cell 𝓜 s v y)
+  pub referred-shown : (v d y : ℕ) → cell 𝓜 s v d ≡ Ref y → isEx (cell 𝓜 s v y) ≡ true → shown (cell 𝓜 s′ v y) ≡ shown (cell 𝓜 s v y)
   referred-shown v d y q t = shown-kept v y (busy-referred 𝓜 s v y (referred-by 𝓜 s v y d q)) (ex-not-var (λ o e n st a. true) (cell 𝓜 s v y) t)
 
   -- an EX that looks the same names the same entry
-  pub ex-after : (v d o e n : ℕ) (st : Status) (a : Bool) → cell 𝓜 s v d ≡ Ex o e n st a → shown (cell 𝓜 (next 𝓜 s h) v d) ≡ shown (cell 𝓜 s v d)
-      → ExOf o e (cell 𝓜 (next 𝓜 s h) v d)
-  ex-after v d o e n st a q same =
-      the-ex-of o e (cell 𝓜 (next 𝓜 s h) v d)
-      (shown-name false (λ owner entr. eqb owner o && eqb entr e) (cell 𝓜 (next 𝓜 s h) v d) (cell 𝓜 s v d) same ∙ ap (exNames o e) q ∙ eq-both o e)
+  pub ex-after : (v d : ℕ) {o e n : ℕ} {st : Status} {a : Bool} → cell 𝓜 s v d ≡ Ex o e n st a → shown (cell 𝓜 s′ v d) ≡ shown (cell 𝓜 s v d)
+      → ExOf o e (cell 𝓜 s′ v d)
+  ex-after v d {o} {e} q same =
+      the-ex-of o e (cell 𝓜 s′ v d)
+      (shown-name false (λ owner entr. eqb owner o && eqb entr e) (cell 𝓜 s′ v d) (cell 𝓜 s v d) same ∙ ap (exNames o e) q ∙ eq-both o e)
+
+  -- a cell that is asked for names what it named
+  asked-name : (a b j r d : ℕ) (m : Message) → message s j ≡ m → asksFor r d m ≡ true → exNames a b (cell 𝓜 s′ r d) ≡ exNames a b (cell 𝓜 s r d)
+  asked-name a b j r d m q t =
+      shown-name false (λ owner entr. eqb owner a && eqb entr b) (cell 𝓜 s′ r d) (cell 𝓜 s r d)
+      (asking-shown r d (asking-cell 𝓜 s F j r d (ap (asksFor r d) q ∙ t)))
 
   -- ---- weights
-  -- a message that stays holds what it held
-  holds-same : (a b j : ℕ) (m : Message) → message s j ≡ m → messageHolds 𝓜 s′ a b m ≡ messageHolds 𝓜 s a b m
-  holds-same a b j Empty q = refl
-  holds-same a b j (Reference to o e n) q = refl
-  holds-same a b j (Release o e n) q = refl
-  holds-same a b j (Read r d o e) q = refl
-  holds-same a b j (Answer r d n) q = refl
-  holds-same a b j (Ask r d o e) q = refl
-  holds-same a b j (Supply r d n) q =
-      let t = asking-cell 𝓜 s F j r d (ap (asksFor r d) q ∙ eq-both r d) in
-      ap (λ (z : Bool). cond z n 0) (shown-name false (λ owner entr. eqb owner a && eqb entr b) (cell 𝓜 s′ r d) (cell 𝓜 s r d) (asking-shown r d t))
+  -- a message that stays holds what it held, and what was true of it still is
+  message-kept : (j : ℕ) (m : Message) → message s j ≡ m
+      → ((a b : ℕ) → messageHolds 𝓜 s′ a b m ≡ messageHolds 𝓜 s a b m) × (MessageFact 𝓜 s m → MessageFact 𝓜 s′ m)
+  message-kept j Empty q = ((λ a b. refl), (λ f. tt))
+  message-kept j (Reference to o e n) q = ((λ a b. refl), (λ f. f))
+  message-kept j (Release o e n) q = ((λ a b. refl), (λ f. f))
+  message-kept j (Read r d o e) q = ((λ a b. refl), (λ f. tt))
+  message-kept j (Answer r d n) q = ((λ a b. refl), (λ f. tt))
+  message-kept j (Ask r d o e) q = ((λ a b. refl), (λ f. asked-name o e j r d (Ask r d o e) q (eq-both r d) ∙ f))
+  message-kept j (Supply r d n) q =
+      ((λ a b. ap (λ (z : Bool). cond z n 0) (asked-name a b j r d (Supply r d n) q (eq-both r d))), (λ f. tt))
 
   holds-new : (a b : ℕ) → messageHolds 𝓜 s′ a b (h .m) ≡ messageHolds 𝓜 s a b (h .m)
-  unfolding s′
-  holds-new a b = go (K .holds-ok)
-    where
-      go : (h .m ≡ h .m₀) ⊎ ((a b : ℕ) → messageHolds 𝓜 s′ a b (h .m) ≡ messageHolds 𝓜 s a b (h .m))
-          → messageHolds 𝓜 s′ a b (h .m) ≡ messageHolds 𝓜 s a b (h .m)
-      go (inl e) = holds-same a b (h .i) (h .m) (K .placed .old-message ∙ sym e)
-      go (inr f) = f a b
+  holds-new a b = ⊎-elim (λ e. message-kept (h .i) (h .m) (K .placed .old-message ∙ sym e) .0 a b) (λ f. f a b) (K .holds-ok)
 
   weighed′ : (a b : ℕ) → entryWeight (entry 𝓜 s′ a b) ≡ held 𝓜 s′ a b
-  unfolding s′ held
+  unfolding held
   weighed′ a b =
       let z = F .sized in
       let P = K .placed in
+      let before : Slot → ℕ = λ y. messageHolds 𝓜 s a b (y .message) in
+      let after : Slot → ℕ = λ y. messageHolds 𝓜 s′ a b (y .message) in
       omega (
         arith,
         stored-number entries-changed entryWeight a b,
         F .weighed a b,
         cells-total 𝓜 s h z P (cellHolds 𝓜 s a b),
         slots-total 𝓜 s h z P (messageHolds 𝓜 s′ a b),
-        total-cong (λ (y : Slot). messageHolds 𝓜 s′ a b (y .message)) (λ (y : Slot). messageHolds 𝓜 s a b (y .message)) (s .slots) (record { message = Empty }) (λ j l. holds-same a b j (message s j) refl),
-        holds-same a b (h .i) (h .m₀) (P .old-message),
+        total-cong after before (s .slots) (record { message = Empty }) (λ j l. message-kept j (message s j) refl .0 a b),
+        message-kept (h .i) (h .m₀) (P .old-message) .0 a b,
         holds-new a b,
         K .weights a b,
       )
@@ -154,7 +162,6 @@ module _ (𝓜 : Machine) (s : Tables) (h : Move) (F : Facts 𝓜 s) (K : Keeps 
   -- ---- cells
   -- what held of a cell still does, and its REF still names an EX
   cell-kept : (v d : ℕ) (k : Kind) → cell 𝓜 s v d ≡ k → CellFact 𝓜 s v k → CellFact 𝓜 s′ v k
-  unfolding s′
   cell-kept v d Free q f = tt
   cell-kept v d Var q f = f
   cell-kept v d (Val n) q f = f
@@ -163,51 +170,39 @@ module _ (𝓜 : Machine) (s : Tables) (h : Move) (F : Facts 𝓜 s) (K : Keeps 
   cell-kept v d (Ex o e n st a) q f = f
 
   cells′ : (v d : ℕ) → CellFact 𝓜 s′ v (cell 𝓜 s′ v d)
-  unfolding s′
   cells′ = stored-all cells-changed (CellFact 𝓜 s′) (λ v d. cell-kept v d (cell 𝓜 s v d) refl (F .cells v d)) (K .cell-ok)
 
   -- ---- entries
   -- an entry that is live before and after keeps its cell and its taint
-  pub live-kept : (a b : ℕ) → isLive (entry 𝓜 s a b) ≡ true → isLive (entry 𝓜 (next 𝓜 s h) a b) ≡ true
-      → (cellOf (entry 𝓜 (next 𝓜 s h) a b) ≡ cellOf (entry 𝓜 s a b)) × (isTainted (entry 𝓜 (next 𝓜 s h) a b) ≡ isTainted (entry 𝓜 s a b))
+  pub live-kept : (a b : ℕ) → isLive (entry 𝓜 s a b) ≡ true → isLive (entry 𝓜 s′ a b) ≡ true
+      → (cellOf (entry 𝓜 s′ a b) ≡ cellOf (entry 𝓜 s a b)) × (isTainted (entry 𝓜 s′ a b) ≡ isTainted (entry 𝓜 s a b))
   live-kept =
       stored-each entries-changed (λ a b x y. isLive x ≡ true → isLive y ≡ true → (cellOf y ≡ cellOf x) × (isTainted y ≡ isTainted x)) (K .entry-kept)
       (λ a b f l l′. (refl, refl))
 
   safe-is-ex : (t : Tables) (v : ℕ) (k : Kind) → safe 𝓜 t v k ≡ true → isEx k ≡ true
   unfolding safe
-  safe-is-ex t v Free q = absurd-bool q refl
-  safe-is-ex t v Var q = absurd-bool q refl
-  safe-is-ex t v (Val n) q = absurd-bool q refl
-  safe-is-ex t v (Ref d) q = absurd-bool q refl
-  safe-is-ex t v (Ex o e n st a) q = refl
+  safe-is-ex t v k q = ap isEx (on-ex (λ o e n st a. ltb o v && not (isTainted (entry 𝓜 t o e))) k q .is)
 
   -- an EX that stays what others see of it stays safe
   safe-kept : (v y : ℕ) → shown (cell 𝓜 s′ v y) ≡ shown (cell 𝓜 s v y) → safe 𝓜 s v (cell 𝓜 s v y) ≡ true → safe 𝓜 s′ v (cell 𝓜 s′ v y) ≡ true
-  unfolding safe s′
+  unfolding safe
   safe-kept v y q t =
       let x = the-ex (cell 𝓜 s v y) (safe-is-ex s v (cell 𝓜 s v y) t) in
       let o = x .owner in
       let e = x .entry in
-      let x′ = ex-after v y o e (x .weight) (x .status) (x .asking) (x .is) q in
-      let l = ex-live 𝓜 s (F .weighed) (F .cells) v y o e (x .weight) (x .status) (x .asking) (x .is) in
-      let l′ = ex-live 𝓜 s′ weighed′ cells′ v y o e (x′ .weight) (x′ .status) (x′ .asking) (x′ .is) in
+      let x′ = ex-after v y (x .is) q in
+      let l = ex-live 𝓜 s (F .weighed) (F .cells) v y (x .is) in
+      let l′ = ex-live 𝓜 s′ weighed′ cells′ v y (x′ .is) in
       let t′ : (ltb o v && not (isTainted (entry 𝓜 s o e))) ≡ true = sym (ap (safe 𝓜 s v) (x .is)) ∙ t in
       ap (safe 𝓜 s′ v) (x′ .is) ∙ ap (λ (z : Bool). ltb o v && not z) (live-kept o e l l′ .1) ∙ t′
-
-  -- a VAR, a VAL or a safe EX, as a test of one kind
-  good-var : (t : Tables) (v : ℕ) (k : Kind) → (isVar k || isVal k) ≡ true → varValOrSafe 𝓜 t v k ≡ true
-  good-var t v k q = or-l (safe 𝓜 t v k) q
-
-  good-safe : (t : Tables) (v : ℕ) (k : Kind) → safe 𝓜 t v k ≡ true → varValOrSafe 𝓜 t v k ≡ true
-  good-safe t v k q = or-r (isVar k || isVal k) q
 
   -- an exported VAR, after the move: itself, its value, or a REF to a safe EX that stays
   pub data VarAfter (v : ℕ) (k : Kind) : Type 0 where
     var-or-val : (isVar k || isVal k) ≡ true → VarAfter v k
-    ref-to-safe : (y : ℕ) → k ≡ Ref y → cell 𝓜 (next 𝓜 s h) v y ≡ cell 𝓜 s v y → safe 𝓜 s v (cell 𝓜 s v y) ≡ true → VarAfter v k
+    ref-to-safe : (y : ℕ) → k ≡ Ref y → cell 𝓜 s′ v y ≡ cell 𝓜 s v y → safe 𝓜 s v (cell 𝓜 s v y) ≡ true → VarAfter v k
 
-  pub var-after : (v d : ℕ) → exported 𝓜 s v d ≡ true → cell 𝓜 s v d ≡ Var → VarAfter v (cell 𝓜 (next 𝓜 s h) v d)
+  pub var-after : (v d : ℕ) → exported 𝓜 s v d ≡ true → cell 𝓜 s v d ≡ Var → VarAfter v (cell 𝓜 s′ v d)
   var-after =
       stored-each cells-changed (λ v d x y. exported 𝓜 s v d ≡ true → x ≡ Var → VarAfter v y)
       (λ x q. becomes q (K .var-kept x (ap isVar q)))
@@ -216,55 +211,56 @@ module _ (𝓜 : Machine) (s : Tables) (h : Move) (F : Facts 𝓜 s) (K : Keeps 
       becomes : h .k₀ ≡ Var → VarBecomes 𝓜 s (h .w) (h .k) → VarAfter (h .w) (h .k)
       becomes q (stays t) = var-or-val t
       becomes q (bound y e t) =
-          let apart : h .w ≡ h .w → h .c ≡ y → ⊥ = λ a b. absurd-bool (safe-is-ex s (h .w) (cell 𝓜 s (h .w) y) t) (ap isEx (ap (cell 𝓜 s (h .w)) (sym b) ∙ cells-changed .was ∙ q)) in
-          ref-to-safe y e (cells-changed .there (h .w) y apart) t
+          let var : h .c ≡ y → isEx (cell 𝓜 s (h .w) y) ≡ false = λ b. ap isEx (ap (cell 𝓜 s (h .w)) (sym b) ∙ cells-changed .was ∙ q) in
+          let is-ex = safe-is-ex s (h .w) (cell 𝓜 s (h .w) y) t in
+          ref-to-safe y e (cells-changed .there (h .w) y (λ a b. absurd-bool is-ex (var b))) t
 
-  var-good : (v d : ℕ) → exported 𝓜 s v d ≡ true → cell 𝓜 s v d ≡ Var → (isFree (cell 𝓜 s′ v d) ≡ false) × (varValOrSafe 𝓜 s′ v (endKind 𝓜 s′ v d) ≡ true)
-  unfolding s′
+  -- an end that is a VAR, a VAL or a safe EX
+  abbrev GoodEnd : Tables → ℕ → ℕ → Type 0
+  GoodEnd t v d = varValOrSafe 𝓜 t v (endKind 𝓜 t v d) ≡ true
+
+  var-good : (v d : ℕ) → exported 𝓜 s v d ≡ true → cell 𝓜 s v d ≡ Var → (isFree (cell 𝓜 s′ v d) ≡ false) × GoodEnd s′ v d
   var-good v d x q = go (cell 𝓜 s′ v d) refl (var-after v d x q)
     where
-      go : (k : Kind) → cell 𝓜 s′ v d ≡ k → VarAfter v k → (isFree (cell 𝓜 s′ v d) ≡ false) × (varValOrSafe 𝓜 s′ v (endKind 𝓜 s′ v d) ≡ true)
+      go : (k : Kind) → cell 𝓜 s′ v d ≡ k → VarAfter v k → (isFree (cell 𝓜 s′ v d) ≡ false) × GoodEnd s′ v d
       go k i (var-or-val t) =
           let r = var-val-end k d t in
-          (ap isFree i ∙ r .0, ap (varValOrSafe 𝓜 s′ v) (end-self 𝓜 s′ v d k i (r .1)) ∙ good-var s′ v k t)
-      go k i (ref-to-safe y e same t) = (
-        ap isFree (i ∙ e),
-        ap (varValOrSafe 𝓜 s′ v) (end-ref 𝓜 s′ v d y (i ∙ e)) ∙ good-safe s′ v (cell 𝓜 s′ v y) (safe-kept v y (ap shown same) t),
-      )
+          (ap isFree i ∙ r .0, ap (varValOrSafe 𝓜 s′ v) (end-self 𝓜 s′ v d k i (r .1)) ∙ or-l (safe 𝓜 s′ v k) t)
+      go k i (ref-to-safe y e same t) =
+          let is-safe = or-r (isVar (cell 𝓜 s′ v y) || isVal (cell 𝓜 s′ v y)) (safe-kept v y (ap shown same) t) in
+          (ap isFree (i ∙ e), ap (varValOrSafe 𝓜 s′ v) (end-ref 𝓜 s′ v d y (i ∙ e)) ∙ is-safe)
 
   -- an exported cell is not freed, and an end that was a VAR, a VAL or a safe EX is one
-  good-kept : (v d : ℕ) → exported 𝓜 s v d ≡ true → isFree (cell 𝓜 s v d) ≡ false
-      → (isFree (cell 𝓜 s′ v d) ≡ false) × (varValOrSafe 𝓜 s v (endKind 𝓜 s v d) ≡ true → varValOrSafe 𝓜 s′ v (endKind 𝓜 s′ v d) ≡ true)
-  unfolding s′
+  good-kept : (v d : ℕ) → exported 𝓜 s v d ≡ true → isFree (cell 𝓜 s v d) ≡ false → (isFree (cell 𝓜 s′ v d) ≡ false) × (GoodEnd s v d → GoodEnd s′ v d)
   good-kept v d x nf = go (cell 𝓜 s v d) refl nf
     where
-      go : (k : Kind) → cell 𝓜 s v d ≡ k → isFree k ≡ false
-          → (isFree (cell 𝓜 s′ v d) ≡ false) × (varValOrSafe 𝓜 s v (endKind 𝓜 s v d) ≡ true → varValOrSafe 𝓜 s′ v (endKind 𝓜 s′ v d) ≡ true)
+      -- its end is safe, where one that looks the same was
+      safe-end : (y : ℕ) → endKind 𝓜 s′ v d ≡ cell 𝓜 s′ v y → endKind 𝓜 s v d ≡ cell 𝓜 s v y → isEx (cell 𝓜 s v y) ≡ true
+          → shown (cell 𝓜 s′ v y) ≡ shown (cell 𝓜 s v y) → GoodEnd s v d → GoodEnd s′ v d
+      safe-end y now was ex same g =
+          let was-safe = good-ex 𝓜 s v (cell 𝓜 s v y) ex (sym (ap (varValOrSafe 𝓜 s v) was) ∙ g) in
+          ap (varValOrSafe 𝓜 s′ v) now ∙ or-r (isVar (cell 𝓜 s′ v y) || isVal (cell 𝓜 s′ v y)) (safe-kept v y same was-safe)
+
+      go : (k : Kind) → cell 𝓜 s v d ≡ k → isFree k ≡ false → (isFree (cell 𝓜 s′ v d) ≡ false) × (GoodEnd s v d → GoodEnd s′ v d)
       go Free q t = absurd-bool refl t
       go Var q t =
           let r = var-good v d x q in
           (r .0, λ g. r .1)
       go (Val n) q t =
-          let here : cell 𝓜 s′ v d ≡ Val n = shown-plain (cell 𝓜 s′ v d) (Val n) refl (exported-shown v d x (ap isVar q) ∙ ap shown q) in
+          let here = exported-same v d (Val n) x q refl refl in
           (ap isFree here, λ g. ap (varValOrSafe 𝓜 s′ v) (end-self 𝓜 s′ v d (Val n) here refl))
       go (Ref y) q t =
-          let here : cell 𝓜 s′ v d ≡ Ref y = shown-plain (cell 𝓜 s′ v d) (Ref y) refl (exported-shown v d x (ap isVar q) ∙ ap shown q) in
-          let f : CellFact 𝓜 s v (Ref y) = rw q at (F .cells v d) in (
-            ap isFree here,
-            (λ g. ap (varValOrSafe 𝓜 s′ v) (end-ref 𝓜 s′ v d y here) ∙ good-safe s′ v (cell 𝓜 s′ v y) (safe-kept v y (referred-shown v d y q (f .1)) (good-ex 𝓜 s v (cell 𝓜 s v y) (f .1) (sym (ap (varValOrSafe 𝓜 s v) (end-ref 𝓜 s v d y q)) ∙ g)))),
-          )
+          let here = exported-same v d (Ref y) x q refl refl in
+          let f = cell-fact 𝓜 s F v d q in
+          (ap isFree here, safe-end y (end-ref 𝓜 s′ v d y here) (end-ref 𝓜 s v d y q) (f .1) (referred-shown v d y q (f .1)))
       go (Ex o e n st a) q t =
           let same = exported-shown v d x (ap isVar q) in
-          let r = ex-after v d o e n st a q same in
-          let k′ = Ex o e (r .weight) (r .status) (r .asking) in
-          let was : varValOrSafe 𝓜 s v (endKind 𝓜 s v d) ≡ true → safe 𝓜 s v (cell 𝓜 s v d) ≡ true = λ g. ap (safe 𝓜 s v) q ∙ sym (ap (varValOrSafe 𝓜 s v) (end-self 𝓜 s v d (Ex o e n st a) q refl)) ∙ g in
-          let is-safe : safe 𝓜 s v (cell 𝓜 s v d) ≡ true → safe 𝓜 s′ v k′ ≡ true = λ g. sym (ap (safe 𝓜 s′ v) (r .is)) ∙ safe-kept v d same g in (
-            ap isFree (r .is),
-            (λ g. ap (varValOrSafe 𝓜 s′ v) (end-self 𝓜 s′ v d k′ (r .is) refl) ∙ good-safe s′ v k′ (is-safe (was g))),
-          )
+          let r = ex-after v d q same in
+          let now = end-self 𝓜 s′ v d (Ex o e (r .weight) (r .status) (r .asking)) (r .is) refl ∙ sym (r .is) in
+          let was = end-self 𝓜 s v d (Ex o e n st a) q refl ∙ sym q in
+          (ap isFree (r .is), safe-end d now was (ap isEx q) same)
 
   entry-kept′ : (v f : ℕ) (y : Holding) → entry 𝓜 s v f ≡ y → EntryFact 𝓜 s v y → EntryFact 𝓜 s′ v y
-  unfolding s′
   entry-kept′ v f Unused q g = tt
   entry-kept′ v f (Live d n t) q g =
       let x = exported-by 𝓜 s v d f (ap (entryNames d) q ∙ eq-eqb d d refl) in
@@ -272,32 +268,20 @@ module _ (𝓜 : Machine) (s : Tables) (h : Move) (F : Facts 𝓜 s) (K : Keeps 
       (g .0, g .1, r .0, λ u. r .1 (g .3 u))
 
   entries′ : (v f : ℕ) → EntryFact 𝓜 s′ v (entry 𝓜 s′ v f)
-  unfolding s′
   entries′ = stored-all entries-changed (EntryFact 𝓜 s′) (λ v f. entry-kept′ v f (entry 𝓜 s v f) refl (F .entries v f)) (K .entry-ok)
 
   -- ---- messages
-  message-kept : (j : ℕ) (m : Message) → message s j ≡ m → MessageFact 𝓜 s m → MessageFact 𝓜 s′ m
-  unfolding s′
-  message-kept j Empty q f = tt
-  message-kept j (Reference to o e n) q f = f
-  message-kept j (Release o e n) q f = f
-  message-kept j (Read r d o e) q f = tt
-  message-kept j (Answer r d n) q f = tt
-  message-kept j (Ask r d o e) q f =
-      let t = asking-cell 𝓜 s F j r d (ap (asksFor r d) q ∙ eq-both r d) in
-      shown-name false (λ owner entr. eqb owner o && eqb entr e) (cell 𝓜 s′ r d) (cell 𝓜 s r d) (asking-shown r d t) ∙ f
-  message-kept j (Supply r d n) q f = tt
-
   messages′ : (j : ℕ) → MessageFact 𝓜 s′ (message s′ j)
-  unfolding s′
   messages′ =
-      messages-all 𝓜 s h (F .sized) (K .placed) (MessageFact 𝓜 s′) (λ j. message-kept j (message s j) refl (F .messages j)) (K .message-ok)
+      messages-all 𝓜 s h (F .sized) (K .placed) (MessageFact 𝓜 s′) (λ j. message-kept j (message s j) refl .1 (F .messages j)) (K .message-ok)
 
-  pub facts-kept : Facts 𝓜 (next 𝓜 s h)
-  unfolding s′ readsOf asksOf booked
+  pub facts-kept : Facts 𝓜 s′
+  unfolding readsOf asksOf booked
   facts-kept =
       let z = F .sized in
       let P = K .placed in
+      let slots = slots-total 𝓜 s h z P in
+      let marks = stored-number cells-changed in
       record {
         sized = next-sized 𝓜 s h z P;
         p-le = F .p-le;
@@ -306,8 +290,8 @@ module _ (𝓜 : Machine) (s : Tables) (h : Move) (F : Facts 𝓜 s) (K : Keeps 
         messages = messages′;
         ex-once = λ v c d a b. stored-once cells-changed (exNames a b) (λ v c d. F .ex-once v c d a b) (λ d. K .ex-new d a b) v c d;
         entry-once = λ v e f d. stored-once entries-changed (entryNames d) (λ v e f. F .entry-once v e f d) (λ f. K .entry-new f d) v e f;
-        reads-one = λ v d. omega (arith, slots-total 𝓜 s h z P (λ y. bit (readsFor v d y)), stored-number cells-changed (λ y. bit (isReading y)) v d, F .reads-one v d, K .reads v d);
-        asks-one = λ v d. omega (arith, slots-total 𝓜 s h z P (λ y. bit (asksFor v d y)), stored-number cells-changed (λ y. bit (isAsking y)) v d, F .asks-one v d, K .asks v d);
+        reads-one = λ v d. omega (arith, slots (λ y. bit (readsFor v d y)), marks (λ y. bit (isReading y)) v d, F .reads-one v d, K .reads v d);
+        asks-one = λ v d. omega (arith, slots (λ y. bit (asksFor v d y)), marks (λ y. bit (isAsking y)) v d, F .asks-one v d, K .asks v d);
         weighed = weighed′;
-        room = λ v. omega (arith, slots-total 𝓜 s h z P (λ y. bit (goesTo v y)), free-count 𝓜 s h z P v, F .room v, K .room v);
+        room = λ v. omega (arith, slots (λ y. bit (goesTo v y)), free-count 𝓜 s h z P v, F .room v, K .room v);
       }

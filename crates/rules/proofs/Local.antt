@@ -5,7 +5,7 @@ use mathlib.Core.Path.{_≡_, refl, sym, ap, subst, _∙_}
 use mathlib.Core.Bool.{Bool, true, false, _&&_, not, cond}
 use mathlib.Core.Logic.{_⊎_, inl, inr}
 use lib.Dec.{eqb, leb}
-use borrow.Author.Tests.{leb-false, eqb-true}
+use borrow.Author.Tests.{leb-false}
 use Rattle.numbers.specs.Below.{bit}
 use Rattle.numbers.specs.Tests.{absurd-bool}
 use Rattle.tables.specs.declared.Status.{Status}
@@ -20,17 +20,17 @@ use Rattle.tables.specs.Look.{cell, entry, end, endKind, safe, exported, busy, 
 use Rattle.rules.specs.Answers.{done, made}
 use Rattle.rules.specs.Sound.{readsFor, asksFor, cellHolds, messageHolds}
 use Rattle.rules.specs.Refusals.{newRefusals, setRefusals, bindRefusals, transferRefusals, dropRefusals}
-use Rattle.rules.specs.Calls.{sendsWhole, transferred, dropped, new, set, bind, transfer, drop}
+use Rattle.rules.specs.Calls.{transferred, dropped, new, set, bind, transfer, drop}
 use Rattle.rules.specs.Machines.{Laws}
-use Rattle.rules.specs.Facts.{CellFact, MessageFact, ReadAhead, AnswerFact, Facts}
+use Rattle.rules.specs.Facts.{CellFact, MessageFact, ReadAhead, AnswerFact, Facts, KnownFact}
 use Rattle.rules.proofs.Inside.{cell-inside}
 use Rattle.rules.proofs.Named.{the-ex, not-on-ex}
 use Rattle.rules.proofs.Busy.{idle-parts}
-use Rattle.rules.specs.Move.{next, Placed, VarBecomes, stays, bound, ReferenceGoes, Makes}
+use Rattle.rules.proofs.Derived.{cell-fact}
+use Rattle.rules.specs.Move.{next, VarBecomes, stays, bound, ReferenceGoes, Makes}
 use Rattle.rules.proofs.Next.{cell-stored}
-use Rattle.rules.proofs.Moves.{cellMove, CellMoves}
-use Rattle.rules.proofs.Steps.{makes-checked, not-false, var-is, zero-cond, free-cell, empty-slot, has-room, room-sent, room-same, free-not-busy, makes-by}
-use Rattle.rules.proofs.Moves.{stores-cell, stores-cell-message}
+use Rattle.rules.proofs.Moves.{cellMove, CellMoves, cell-placed, stores-cell, stores-cell-message}
+use Rattle.rules.proofs.Steps.{makes-checked, not-false, var-is, zero-cond, free-cell, empty-slot, has-room, room-sent, room-same, free-not-busy, makes-by, mark-cond}
 
 -- a message that carries the weight n of the entry e of worker o, and is no Read, Answer, Ask or Supply
 pub record Sends (𝓜 : Machine) (s : Tables) (o e n : ℕ) (m : Message) : Type 0 where
@@ -50,14 +50,19 @@ module _ (𝓜 : Machine) (L : Laws 𝓜) (s : Tables) (F : Facts 𝓜 s) where
   release-sends o e n i =
       record { ok = λ t q. i; no-read = λ v d. refl; no-ask = λ v d. refl; holds = λ t a b. refl; no-ahead = λ t. tt; no-answer = λ t. tt }
 
-  pub weight-some : (w c o e n : ℕ) (st : Status) (a : Bool) → cell 𝓜 s w c ≡ Ex o e n st a → 1 ≤ n
-  weight-some w c o e n st a q =
-      let f : CellFact 𝓜 s w (Ex o e n st a) = subst (CellFact 𝓜 s w) q (F .cells w c) in
-      f .2
+  pub weight-some : (w c : ℕ) {o e n : ℕ} {st : Status} {a : Bool} → cell 𝓜 s w c ≡ Ex o e n st a → 1 ≤ n
+  weight-some w c q = cell-fact 𝓜 s F w c q .2
 
   -- a worker that is no refusal's
   pub worker-used : (w : ℕ) → leb (s .p) w ≡ false → (w < s .p) × (w < 𝓜 .workers)
   worker-used w h = (leb-false (s .p) w h, omega (arith, leb-false (s .p) w h, F .p-le))
+
+  -- a cell that is stored, and is no EX that is known
+  cell-makes : (w c : ℕ) (k₀ k : Kind) → CellMoves 𝓜 L s w c k₀ k 0 (message s 0) (message s 0) → ((t : Tables) → KnownFact 𝓜 t k)
+      → Makes 𝓜 s (putCell 𝓜 s w c k)
+  cell-makes w c k₀ k M known =
+      let after = next 𝓜 s (cellMove 𝓜 s w c k₀ k 0 (message s 0) (message s 0)) in
+      makes-by 𝓜 s (stores-cell 𝓜 L s F w c k₀ k M) (inl refl) (λ t. record { answer-ok = inl refl; known-ok = inr (known after) })
 
   -- ---- new
   new-moves : (w c : ℕ) → w < s .p → booked s w < freeCells 𝓜 s w → c < 𝓜 .cells → cell 𝓜 s w c ≡ Free
@@ -80,15 +85,8 @@ module _ (𝓜 : Machine) (L : Laws 𝓜) (s : Tables) (F : Facts 𝓜 s) where
         asks = λ v d. refl;
         weights = λ a b. refl;
         holds-ok = inl refl;
-        room = λ v. go v (eqb w v) refl;
+        room = λ v. omega (arith, room-sent 𝓜 L s F w 0 0 0 r v, mark-cond (eqb w v));
       }
-    where
-      go : (v : ℕ) (t : Bool) → eqb w v ≡ t
-          → booked s v + bit (goesTo v (message s 0)) + cond t 1 0 ≤ freeCells 𝓜 s v + bit (goesTo v (message s 0)) + cond t 0 0
-      go v true t =
-          let e = eqb-true w v t in
-          subst (λ (y : ℕ). booked s y + bit (goesTo y (message s 0)) + 1 ≤ freeCells 𝓜 s y + bit (goesTo y (message s 0)) + 0) e (omega arith)
-      go v false t = omega (arith, F .room v)
 
   pub new-makes : (w : ℕ) → Makes 𝓜 s (made 𝓜 s (new 𝓜 s w) .after)
   unfolding new
@@ -99,7 +97,7 @@ module _ (𝓜 : Machine) (L : Laws 𝓜) (s : Tables) (F : Facts 𝓜 s) where
       let u = worker-used w (search) in
       let r = has-room 𝓜 L s F w (search) in
       let f = free-cell 𝓜 L s F w (omega arith) in
-      makes-by 𝓜 s (stores-cell 𝓜 L s F w c Free Var (new-moves w c (u .0) r (f .0) (f .1))) (inl refl) (λ t. record { answer-ok = inl refl; known-ok = inr tt }))
+      cell-makes w c Free Var (new-moves w c (u .0) r (f .0) (f .1)) (λ t. tt))
 
   -- ---- set and bind: a VAR gets its value, or becomes a REF
   var-moves : (w c : ℕ) (k : Kind) → cell 𝓜 s w c ≡ Var → CellFact 𝓜 (next 𝓜 s (cellMove 𝓜 s w c Var k 0 (message s 0) (message s 0))) w k
@@ -119,17 +117,12 @@ module _ (𝓜 : Machine) (L : Laws 𝓜) (s : Tables) (F : Facts 𝓜 s) where
         ex-kept = λ a b t y. absurd-bool t refl;
         reference-kept = inl refl;
         ex-new = λ d a b t y. absurd-bool t (not-on-ex false (λ owner entr n st z. eqb owner a && eqb entr b) k ne);
-        reads = λ v d. ap (λ (z : Bool). bit (readsFor v d (message s 0)) + cond (eqb w v && eqb c d) (bit z) 0) (sym (not-on-ex false (λ o e n st z. readingOf st) k ne));
-        asks = λ v d. ap (λ (z : Bool). bit (asksFor v d (message s 0)) + cond (eqb w v && eqb c d) (bit z) 0) (sym (not-on-ex false (λ o e n st z. z) k ne));
+        reads = λ v d. rw (not-on-ex false (λ o e n st z. readingOf st) k ne);
+        asks = λ v d. rw (not-on-ex false (λ o e n st z. z) k ne);
         weights = λ a b. omega (arith, not-on-ex 0 (λ owner entr n st z. cond (eqb owner a && eqb entr b) n 0) k ne);
         holds-ok = inl refl;
-        room = λ v. let e = ap bit nf in zeroes v (eqb w v) (bit (isFree k)) e;
+        room = λ v. rw nf (omega (arith, F .room v));
       }
-    where
-      zeroes : (v : ℕ) (t : Bool) (n : ℕ) → n ≡ 0
-          → booked s v + bit (goesTo v (message s 0)) + cond t 0 0 ≤ freeCells 𝓜 s v + bit (goesTo v (message s 0)) + cond t n 0
-      zeroes v true n e = omega (arith, F .room v)
-      zeroes v false n e = omega (arith, F .room v)
 
   pub set-makes : (w c n : ℕ) → Makes 𝓜 s (made 𝓜 s (set 𝓜 s w c n) .after)
   unfolding set
@@ -138,7 +131,7 @@ module _ (𝓜 : Machine) (L : Laws 𝓜) (s : Tables) (F : Facts 𝓜 s) where
       (λ p.
       let u = worker-used w (search) in
       let q = var-is (cell 𝓜 s w c) (not-false (search)) in
-      makes-by 𝓜 s (stores-cell 𝓜 L s F w c Var (Val n) (var-moves w c (Val n) q (u .0) (λ x. stays refl) refl refl)) (inl refl) (λ t. record { answer-ok = inl refl; known-ok = inr tt }))
+      cell-makes w c Var (Val n) (var-moves w c (Val n) q (u .0) (λ x. stays refl) refl refl) (λ t. tt))
 
   pub bind-makes : (w c x : ℕ) → Makes 𝓜 s (made 𝓜 s (bind 𝓜 s w c x) .after)
   unfolding bind endKind
@@ -150,20 +143,16 @@ module _ (𝓜 : Machine) (L : Laws 𝓜) (s : Tables) (F : Facts 𝓜 s) where
       let q = var-is (cell 𝓜 s w c) (not-false (search)) in
       let ex : isEx (cell 𝓜 s w y) ≡ true = not-false (search) in
       let guarded : (exported 𝓜 s w c && not (safe 𝓜 s w (cell 𝓜 s w y))) ≡ false = search in
-      makes-by 𝓜 s (stores-cell 𝓜 L s F w c Var (Ref y) (var-moves w c (Ref y) q (u .0, ref-ex q ex) (λ e. bound y refl (safe-of (exported 𝓜 s w c) (safe 𝓜 s w (cell 𝓜 s w y)) e guarded)) refl refl)) (inl refl) (λ t. record { answer-ok = inl refl; known-ok = inr tt }))
+      cell-makes w c Var (Ref y) (var-moves w c (Ref y) q (u .0, ref-ex q ex) (λ e. bound y refl (not-false (rw e at guarded))) refl refl) (λ t. tt))
     where
-      safe-of : (a b : Bool) → a ≡ true → (a && not b) ≡ false → b ≡ true
-      safe-of true true e g = refl
-      safe-of true false e g = absurd-bool refl g
-      safe-of false b e g = absurd-bool e refl
-
       ref-ex : cell 𝓜 s w c ≡ Var → isEx (cell 𝓜 s w (end 𝓜 s w x)) ≡ true
           → isEx (cell 𝓜 (next 𝓜 s (cellMove 𝓜 s w c Var (Ref (end 𝓜 s w x)) 0 (message s 0) (message s 0))) w (end 𝓜 s w x)) ≡ true
       ref-ex q ex =
           let inside = cell-inside 𝓜 s w c (ap isFree q) in
-          let placed : Placed 𝓜 s (cellMove 𝓜 s w c Var (Ref (end 𝓜 s w x)) 0 (message s 0) (message s 0)) = record { w-in = inside .0; c-in = inside .1; o-in = L .workers-some; e-in = L .entries-some; i-in = L .slots-some; old-cell = q; old-entry = refl; old-message = refl } in
-          ap isEx (cell-stored 𝓜 s (cellMove 𝓜 s w c Var (Ref (end 𝓜 s w x)) 0 (message s 0) (message s 0)) (F .sized) placed .there w (end 𝓜 s w x) (λ a b. absurd-bool ex (ap isEx (ap (cell 𝓜 s w) (sym b) ∙ q))))
-          ∙ ex
+          let y = end 𝓜 s w x in
+          let h = cellMove 𝓜 s w c Var (Ref y) 0 (message s 0) (message s 0) in
+          let stored = cell-stored 𝓜 s h (F .sized) (cell-placed 𝓜 L s (inside .0) (inside .1) (L .slots-some) q refl) in
+          ap isEx (stored .there w y (λ a b. absurd-bool ex (ap isEx (ap (cell 𝓜 s w) (sym b) ∙ q)))) ∙ ex
 
   -- ---- a cell that is not busy is freed, its weight, if it has one, going into the slot i
   pub record Frees (w c : ℕ) (k₀ : Kind) (i : ℕ) (m₀ m : Message) : Type 0 where
@@ -210,7 +199,7 @@ module _ (𝓜 : Machine) (L : Laws 𝓜) (s : Tables) (F : Facts 𝓜 s) where
   frees-only : (w c : ℕ) (k₀ : Kind) → cell 𝓜 s w c ≡ k₀ → isFree k₀ ≡ false → busy 𝓜 s w c ≡ false → ((a b : ℕ) → cellHolds 𝓜 s a b k₀ ≡ 0)
       → Makes 𝓜 s (putCell 𝓜 s w c Free)
   frees-only w c k₀ q nf idle light =
-      makes-by 𝓜 s (stores-cell 𝓜 L s F w c k₀ Free
+      cell-makes w c k₀ Free
       (frees w c k₀ 0 (message s 0) (message s 0)
       (record {
         i-in = L .slots-some;
@@ -225,15 +214,16 @@ module _ (𝓜 : Machine) (L : Laws 𝓜) (s : Tables) (F : Facts 𝓜 s) where
         weights = λ a b. omega (arith, light a b);
         holds-ok = inl refl;
         room = λ v. omega (arith, F .room v);
-      })))
-      (inl refl) (λ t. record { answer-ok = inl refl; known-ok = inr tt })
+      }))
+      (λ t. tt)
 
   -- an EX's whole weight goes into an empty slot, as a Reference or as a Release
-  frees-sent : (w c o e n : ℕ) (st : Status) (a : Bool) (m : Message) → cell 𝓜 s w c ≡ Ex o e n st a → busy 𝓜 s w c ≡ false
+  frees-sent : (w c : ℕ) {o e n : ℕ} {st : Status} {a : Bool} (m : Message) → cell 𝓜 s w c ≡ Ex o e n st a → busy 𝓜 s w c ≡ false
       → leb (𝓜 .slots) (lowestEmptySlot 𝓜 s) ≡ false → Sends 𝓜 s o e n m → ((v : ℕ) → booked s v + bit (goesTo v m) ≤ freeCells 𝓜 s v + 0)
       → Makes 𝓜 s (putMessage (putCell 𝓜 s w c Free) (lowestEmptySlot 𝓜 s) m)
-  frees-sent w c o e n st a m q idle full z room =
+  frees-sent w c {o} {e} {n} {st} {a} m q idle full z room =
       let slot = empty-slot 𝓜 L s F full in
+      let after = next 𝓜 s (cellMove 𝓜 s w c (Ex o e n st a) Free (lowestEmptySlot 𝓜 s) Empty m) in
       makes-by 𝓜 s (stores-cell-message 𝓜 L s F w c (Ex o e n st a) Free (lowestEmptySlot 𝓜 s) Empty m
       (frees w c (Ex o e n st a) (lowestEmptySlot 𝓜 s) Empty m
       (record {
@@ -243,14 +233,14 @@ module _ (𝓜 : Machine) (L : Laws 𝓜) (s : Tables) (F : Facts 𝓜 s) where
         idle = idle;
         old-message = slot .1;
         reference-kept = inr tt;
-        message-ok = inr (z .ok (next 𝓜 s (cellMove 𝓜 s w c (Ex o e n st a) Free (lowestEmptySlot 𝓜 s) Empty m)) refl);
+        message-ok = inr (z .ok after refl);
         reads = λ v d. ap bit (z .no-read v d);
         asks = λ v d. ap bit (z .no-ask v d);
         weights = λ x y. omega (arith, z .holds s x y);
-        holds-ok = inr (λ x y. z .holds (next 𝓜 s (cellMove 𝓜 s w c (Ex o e n st a) Free (lowestEmptySlot 𝓜 s) Empty m)) x y ∙ sym (z .holds s x y));
+        holds-ok = inr (λ x y. z .holds after x y ∙ sym (z .holds s x y));
         room = room;
       })))
-      (inr (0, z .no-ahead (next 𝓜 s (cellMove 𝓜 s w c (Ex o e n st a) Free (lowestEmptySlot 𝓜 s) Empty m)))) (λ t. record { answer-ok = inr (z .no-answer (next 𝓜 s (cellMove 𝓜 s w c (Ex o e n st a) Free (lowestEmptySlot 𝓜 s) Empty m))); known-ok = inr tt })
+      (inr (0, z .no-ahead after)) (λ t. record { answer-ok = inr (z .no-answer after); known-ok = inr tt })
 
   -- "transfer"
   pub transfer-makes : (w c to : ℕ) → Makes 𝓜 s (made 𝓜 s (transfer 𝓜 s w c to) .after)
@@ -261,7 +251,11 @@ module _ (𝓜 : Machine) (L : Laws 𝓜) (s : Tables) (F : Facts 𝓜 s) where
       let u = worker-used to (search) in
       let x = the-ex (cell 𝓜 s w c) (not-false (search)) in
       let r = has-room 𝓜 L s F to (search) in
-      subst (λ (k : Kind). Makes 𝓜 s (putMessage (putCell 𝓜 s w c Free) (lowestEmptySlot 𝓜 s) (sendsWhole to k))) (sym (x .is)) (frees-sent w c (x .owner) (x .entry) (x .weight) (x .status) (x .asking) (Reference to (x .owner) (x .entry) (x .weight)) (x .is) (search) (search) (reference-sends to (x .owner) (x .entry) (x .weight) (u .0) (weight-some w c (x .owner) (x .entry) (x .weight) (x .status) (x .asking) (x .is))) (room-sent 𝓜 L s F to (x .owner) (x .entry) (x .weight) r)))
+      let o = x .owner in
+      let e = x .entry in
+      let n = x .weight in
+      let sends = reference-sends to o e n (u .0) (weight-some w c (x .is)) in
+      rw (x .is) (frees-sent w c (Reference to o e n) (x .is) (search) (search) sends (room-sent 𝓜 L s F to o e n r)))
 
   -- "drop"
   pub drop-makes : (w c : ℕ) → Makes 𝓜 s (made 𝓜 s (drop 𝓜 s w c) .after)
@@ -277,7 +271,7 @@ module _ (𝓜 : Machine) (L : Laws 𝓜) (s : Tables) (F : Facts 𝓜 s) where
       go (Val n) q nf idle full = frees-only w c (Val n) q refl idle (λ a b. refl)
       go (Ref d) q nf idle full = frees-only w c (Ref d) q refl idle (λ a b. refl)
       go (Ex o e n st a) q nf idle full =
-          frees-sent w c o e n st a (Release o e n) q idle
+          frees-sent w c (Release o e n) q idle
           (subst (λ (k : Kind). (isEx k && leb (𝓜 .slots) (lowestEmptySlot 𝓜 s)) ≡ false) q full)
-          (release-sends o e n (weight-some w c o e n st a q))
+          (release-sends o e n (weight-some w c q))
           (room-same 𝓜 L s F)

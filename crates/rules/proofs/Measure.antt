@@ -1,13 +1,12 @@
 -- What is still to be delivered, measured by a rank of the entries: at most B, and lower after each delivery. Assumes nothing.
-use Prim.Native.Nat.{ℕ, _+_, _*_, _/_, _%_, _<_, _≤_}
+use Prim.Native.Nat.{ℕ, _*_, _/_, _%_, _<_, _≤_}
 use native.Mathlib.Omega.{arith}
-use mathlib.Core.Path.{_≡_, refl, sym, ap, ap₂, subst, _∙_}
-use mathlib.Core.Bool.{Bool, true, false, _&&_}
-use mathlib.Core.Logic.{_⊎_, inl, inr}
+use mathlib.Core.Path.{_≡_, refl, subst}
+use mathlib.Core.Bool.{Bool, true}
 use lib.Dec.{leb}
 use Rattle.numbers.specs.Below.{bit}
 use Rattle.numbers.specs.Lists.{total}
-use Rattle.numbers.specs.Tests.{absurd-bool}
+use Rattle.numbers.specs.Tests.{and-l, and-r, and-i}
 use Rattle.numbers.specs.BelowLaws.{sum-mono}
 use Rattle.numbers.specs.ListLaws.{total-mono}
 use Rattle.tables.specs.declared.Slot.{Slot}
@@ -30,20 +29,32 @@ use Rattle.rules.specs.Move.{Move, next, Keeps, ReadsOn, TrueValues, Car
 use Rattle.rules.proofs.Stored.{stored-each}
 use Rattle.rules.proofs.Next.{cell-stored, entry-stored, slots-total}
 use Rattle.rules.proofs.Onward.{ends-kept}
-use Rattle.rules.proofs.Rank.{was-or-new}
 use Rattle.rules.proofs.Stays.{invariant-kept, rank-kept}
-use Rattle.rules.proofs.Count.{standsAt, standing, standing-live}
+use Rattle.rules.proofs.Count.{standsAt, standing, standing-live, stands, bit-mono}
 use Rattle.rules.proofs.Moves.{Stores}
+
+-- the rank at which a Read's entry stands
+abbrev pub rankOf : (ℕ → ℕ → ℕ) → Message → ℕ
+rankOf r Empty = 0
+rankOf r (Reference to o e w) = 0
+rankOf r (Release o e w) = 0
+rankOf r (Read rd c o e) = r o e
+rankOf r (Answer rd c v) = 0
+rankOf r (Ask a c o e) = 0
+rankOf r (Supply a c w) = 0
 
 -- what a message may still take: a Read one for itself, and one for each live entry that stands at most as high as its own
 abbrev pub spends : Machine → Tables → (ℕ → ℕ → ℕ) → Message → ℕ
-spends 𝓜 s r Empty = 0
-spends 𝓜 s r (Reference to o e w) = 1
-spends 𝓜 s r (Release o e w) = 1
-spends 𝓜 s r (Read rd c o e) = standing 𝓜 s r (r o e) + 1
-spends 𝓜 s r (Answer rd c v) = 1
-spends 𝓜 s r (Ask a c o e) = 2
-spends 𝓜 s r (Supply a c w) = 1
+spends 𝓜 s r m = costs (standing 𝓜 s r (rankOf r m)) m
+
+costs-mono : {a b : ℕ} (m : Message) → a ≤ b → costs a m ≤ costs b m
+costs-mono Empty h = omega arith
+costs-mono (Reference to o e w) h = omega arith
+costs-mono (Release o e w) h = omega arith
+costs-mono (Read rd c o e) h = omega arith
+costs-mono (Answer rd c v) h = omega arith
+costs-mono (Ask a c o e) h = omega arith
+costs-mono (Supply a c w) h = omega arith
 
 unfoldable pub measure : Machine → Tables → (ℕ → ℕ → ℕ) → ℕ
 measure 𝓜 s r = total (λ x. spends 𝓜 s r (x .message)) (s .slots)
@@ -52,16 +63,7 @@ pub measure-bound : (𝓜 : Machine) (L : Laws 𝓜) (s : Tables) (F : Facts �
 unfolding measure B
 measure-bound 𝓜 L s F r =
     total-mono (λ (x : Slot). spends 𝓜 s r (x .message)) (λ (x : Slot). costs (liveEntries s) (x .message)) (s .slots) (record { message = Empty })
-    (λ k l. le (message s k))
-  where
-    le : (m : Message) → spends 𝓜 s r m ≤ costs (liveEntries s) m
-    le Empty = omega arith
-    le (Reference to o e w) = omega arith
-    le (Release o e w) = omega arith
-    le (Read rd c o e) = omega (arith, standing-live 𝓜 L s (F .sized) r (r o e))
-    le (Answer rd c v) = omega arith
-    le (Ask a c o e) = omega arith
-    le (Supply a c w) = omega arith
+    (λ k l. costs-mono (message s k) (standing-live 𝓜 L s (F .sized) r (rankOf r (message s k))))
 
 -- ---- how a delivery changes a cell: an EX that reads goes on reading or is known, and what is known stays so
 abbrev pub StatusOn : Status → Status → Type 0
@@ -134,52 +136,38 @@ pub record Arrived (𝓜 : Machine) (s : Tables) (r : ℕ → ℕ → ℕ) (s′
   pub ends : (p : Place) (v : ℕ) → LivePlace 𝓜 s′ p → EndsIn 𝓜 s p v → EndsIn 𝓜 s′ p v
 
 module _ (𝓜 : Machine) (L : Laws 𝓜) (s : Tables) (I : Invariant 𝓜 s) (r : ℕ → ℕ → ℕ) (R : Ranked 𝓜 s r) where
-  -- where a move makes no entry, no more of them stand at a rank
-  fewer : (h : Move) → Keeps 𝓜 s h → (isLive (h .x) ≡ true → isLive (h .x₀) ≡ true) → (ρ : ℕ) → standing 𝓜 (next 𝓜 s h) r ρ ≤ standing 𝓜 s r ρ
+  -- where a move makes no entry, no more of them stand at a rank, and no message takes more
+  no-more : (h : Move) → Keeps 𝓜 s h → (isLive (h .x) ≡ true → isLive (h .x₀) ≡ true) → (m : Message) → spends 𝓜 (next 𝓜 s h) r m ≤ spends 𝓜 s r m
   unfolding standing
-  fewer h K old ρ =
-      sum-mono (𝓜 .workers * 𝓜 .entries) (λ j. bit (standsAt 𝓜 (next 𝓜 s h) r ρ j)) (λ j. bit (standsAt 𝓜 s r ρ j))
-      (λ j l. le (isLive (entry 𝓜 (next 𝓜 s h) (j / 𝓜 .entries) (j % 𝓜 .entries))) (isLive (entry 𝓜 s (j / 𝓜 .entries) (j % 𝓜 .entries))) (leb (r (j / 𝓜 .entries) (j % 𝓜 .entries)) ρ) (λ t. was (j / 𝓜 .entries) (j % 𝓜 .entries) t (was-or-new 𝓜 s h (I .facts) K r R (j / 𝓜 .entries) (j % 𝓜 .entries) t)))
+  no-more h K old m =
+      let ρ = rankOf r m in
+      costs-mono m
+      (sum-mono (𝓜 .workers * 𝓜 .entries) (λ j. bit (standsAt 𝓜 (next 𝓜 s h) r ρ j)) (λ j. bit (standsAt 𝓜 s r ρ j))
+      (λ j l. at ρ (j / 𝓜 .entries) (j % 𝓜 .entries)))
     where
-      was : (a b : ℕ) → isLive (entry 𝓜 (next 𝓜 s h) a b) ≡ true
-          → (isLive (entry 𝓜 s a b) ≡ true) ⊎ ((h .o ≡ a) × (h .e ≡ b) × (isLive (h .x₀) ≡ false)) → isLive (entry 𝓜 s a b) ≡ true
-      was a b t (inl l) = l
-      was a b t (inr q) =
-          let same = ap₂ (entry 𝓜 (next 𝓜 s h)) (sym (q .0)) (sym (q .1)) ∙ entry-stored 𝓜 s h (I .facts .sized) (K .placed) .here in
-          absurd-bool (old (sym (ap isLive same) ∙ t)) (q .2)
+      was : (a b : ℕ) → isLive (entry 𝓜 (next 𝓜 s h) a b) ≡ true → isLive (entry 𝓜 s a b) ≡ true
+      was = stored-each (entry-stored 𝓜 s h (I .facts .sized) (K .placed)) (λ a b x y. isLive y ≡ true → isLive x ≡ true) old (λ a b f t. t)
 
-      le : (a b c : Bool) → (a ≡ true → b ≡ true) → bit (a && c) ≤ bit (b && c)
-      le true b c f = subst (λ (z : Bool). bit c ≤ bit (z && c)) (sym (f refl)) (omega arith)
-      le false b c f = omega arith
-
-  -- a move whose message takes less than the one before it
-  by-move : (h : Move) → Keeps 𝓜 s h → ReadsOn 𝓜 s h → Carries 𝓜 s h → (isLive (h .x) ≡ true → isLive (h .x₀) ≡ true)
-      → spends 𝓜 (next 𝓜 s h) r (h .m) < spends 𝓜 (next 𝓜 s h) r (h .m₀) → KindOn (h .k₀) (h .k) → Arrived 𝓜 s r (next 𝓜 s h)
-  unfolding measure
-  by-move h K reads C old less on =
-      record {
-        invariant = invariant-kept 𝓜 s h I K reads C;
-        ranked = rank-kept 𝓜 s h (I .facts) K r R old;
-        lower =
-            omega (
-              arith,
-              slots-total 𝓜 s h (I .facts .sized) (K .placed) (spends 𝓜 (next 𝓜 s h) r),
-              total-mono (λ (x : Slot). spends 𝓜 (next 𝓜 s h) r (x .message)) (λ (x : Slot). spends 𝓜 s r (x .message)) (s .slots) (record { message = Empty }) (λ k l. le (message s k)),
-            );
-        on = stored-each (cell-stored 𝓜 s h (I .facts .sized) (K .placed)) (λ w c x y. KindOn x y) on (λ w c f. kind-same (cell 𝓜 s w c));
-        ends = ends-kept 𝓜 s h (I .facts) K;
-      }
-    where
-      le : (m : Message) → spends 𝓜 (next 𝓜 s h) r m ≤ spends 𝓜 s r m
-      le Empty = omega arith
-      le (Reference to o e w) = omega arith
-      le (Release o e w) = omega arith
-      le (Read rd c o e) = omega (arith, fewer h K old (r o e))
-      le (Answer rd c v) = omega arith
-      le (Ask a c o e) = omega arith
-      le (Supply a c w) = omega arith
+      at : (ρ a b : ℕ) → bit (stands 𝓜 (next 𝓜 s h) r ρ a b) ≤ bit (stands 𝓜 s r ρ a b)
+      at ρ a b =
+          let live = isLive (entry 𝓜 (next 𝓜 s h) a b) in
+          bit-mono (stands 𝓜 (next 𝓜 s h) r ρ a b) (stands 𝓜 s r ρ a b)
+          (λ t. and-i (was a b (and-l live (leb (r a b) ρ) t)) (and-r live (leb (r a b) ρ) t))
 
   pub arrived : (s′ : Tables) → Delivers 𝓜 s s′ → Arrived 𝓜 s r s′
+  unfolding measure
   arrived s′ D =
+      let h = D .move in
+      let K = D .keeps in
+      let z = I .facts .sized in
+      let before : Slot → ℕ = λ x. spends 𝓜 s r (x .message) in
+      let after : Slot → ℕ = λ x. spends 𝓜 (next 𝓜 s h) r (x .message) in
+      let rest = total-mono after before (s .slots) (record { message = Empty }) (λ k l. no-more h K (D .none-new) (message s k)) in
       subst (Arrived 𝓜 s r) (D .is)
-      (by-move (D .move) (D .keeps) (D .reads-on) (D .carries (I .known)) (D .none-new) (D .less r R) (D .on))
+      (record {
+        invariant = invariant-kept 𝓜 s h I K (D .reads-on) (D .carries (I .known));
+        ranked = rank-kept 𝓜 s h (I .facts) K r R (D .none-new);
+        lower = omega (arith, slots-total 𝓜 s h z (K .placed) (spends 𝓜 (next 𝓜 s h) r), rest, D .less r R);
+        on = stored-each (cell-stored 𝓜 s h z (K .placed)) (λ w c x y. KindOn x y) (D .on) (λ w c f. kind-same (cell 𝓜 s w c));
+        ends = ends-kept 𝓜 s h (I .facts) K;
+      })

@@ -2,8 +2,8 @@
 -- taken off; and that the rules' stores are such moves. Assumes nothing.
 use Prim.Native.Nat.{ℕ, _+_, _*_, _<_, _≤_}
 use native.Mathlib.Omega.{arith}
-use mathlib.Core.Path.{_≡_, refl, ap, ap₂, subst, _∙_}
-use mathlib.Core.Bool.{Bool, true, false, _&&_, _||_, cond}
+use mathlib.Core.Path.{_≡_, refl, ap, ap₂, _∙_}
+use mathlib.Core.Bool.{Bool, true, false, _&&_, cond}
 use mathlib.Core.List.{List}
 use mathlib.Core.Logic.{_⊎_, inl, inr}
 use lib.Dec.{eqb}
@@ -30,7 +30,8 @@ use Rattle.rules.specs.Sound.{readsFor, asksFor, cellHolds, messageHolds
 use Rattle.rules.specs.Machines.{Laws}
 use Rattle.rules.specs.Facts.{CellFact, EntryFact, MessageFact, Facts}
 use Rattle.rules.proofs.Inside.{cell-inside}
-use Rattle.rules.specs.Move.{Move, next, shown, VarBecomes, stays, ReferenceGoes, Keeps}
+use Rattle.rules.proofs.Derived.{cell-fact}
+use Rattle.rules.specs.Move.{Move, next, shown, VarBecomes, stays, ReferenceGoes, Keeps, Placed}
 
 -- a move of the cell c of worker w and of the slot i; the entry that stands first is left as it is
 abbrev pub cellMove : Machine → Tables → ℕ → ℕ → Kind → Kind → ℕ → Message → Message → Move
@@ -68,8 +69,9 @@ module _ (𝓜 : Machine) (L : Laws 𝓜) (s : Tables) where
   pub put-cell : (w c : ℕ) (k₀ k : Kind) → w < 𝓜 .workers → c < 𝓜 .cells → next 𝓜 s (cellMove 𝓜 s w c k₀ k 0 (message s 0) (message s 0)) ≡ putCell 𝓜 s w c k
   unfolding putCell
   put-cell w c k₀ k a b =
+      let stored = withCells s (set (s .cells) (w * 𝓜 .cells + c) (record { kind = k })) in
       rw (lt-ltb w (𝓜 .workers) a, lt-ltb c (𝓜 .cells) b)
-      (ap₂ (λ (l : List Entry) (q : List Slot). withSlots (withEntries (withCells s (set (s .cells) (w * 𝓜 .cells + c) (record { kind = k }))) l) q) same-entries (set-getD (s .slots) 0 (record { message = Empty })))
+      (ap₂ (λ (l : List Entry) (q : List Slot). withSlots (withEntries stored l) q) same-entries (set-getD (s .slots) 0 (record { message = Empty })))
 
   pub put-entry-message : (o e : ℕ) (x₀ x : Holding) (i : ℕ) (m₀ m : Message) → o < 𝓜 .workers → e < 𝓜 .entries
       → next 𝓜 s (entryMove 𝓜 s o e x₀ x i m₀ m) ≡ putMessage (putEntry 𝓜 s o e x) i m
@@ -82,6 +84,17 @@ module _ (𝓜 : Machine) (L : Laws 𝓜) (s : Tables) where
   unfolding putMessage
   put-message i m₀ m =
       ap₂ (λ (l : List Cell) (q : List Entry). putMessage (withEntries (withCells s l) q) i m) same-cells same-entries
+
+  -- ---- where they are made
+  pub cell-placed : {w c i : ℕ} {k₀ k : Kind} {m₀ m : Message} → w < 𝓜 .workers → c < 𝓜 .cells → i < 𝓜 .slots → cell 𝓜 s w c ≡ k₀ → message s i ≡ m₀
+      → Placed 𝓜 s (cellMove 𝓜 s w c k₀ k i m₀ m)
+  cell-placed w-in c-in i-in q p =
+      record { w-in = w-in; c-in = c-in; o-in = L .workers-some; e-in = L .entries-some; i-in = i-in; old-cell = q; old-entry = refl; old-message = p }
+
+  pub entry-placed : {o e i : ℕ} {x₀ x : Holding} {m₀ m : Message} → o < 𝓜 .workers → e < 𝓜 .entries → i < 𝓜 .slots → entry 𝓜 s o e ≡ x₀
+      → message s i ≡ m₀ → Placed 𝓜 s (entryMove 𝓜 s o e x₀ x i m₀ m)
+  entry-placed o-in e-in i-in q p =
+      record { w-in = L .workers-some; c-in = L .cells-some; o-in = o-in; e-in = e-in; i-in = i-in; old-cell = refl; old-entry = q; old-message = p }
 
   -- ---- a cell and a slot
   pub record CellMoves (w c : ℕ) (k₀ k : Kind) (i : ℕ) (m₀ m : Message) : Type 0 where
@@ -110,7 +123,7 @@ module _ (𝓜 : Machine) (L : Laws 𝓜) (s : Tables) where
     pub cell-keeps : (w c : ℕ) (k₀ k : Kind) (i : ℕ) (m₀ m : Message) → CellMoves w c k₀ k i m₀ m → Keeps 𝓜 s (cellMove 𝓜 s w c k₀ k i m₀ m)
     cell-keeps w c k₀ k i m₀ m M =
         record {
-          placed = record { w-in = M .w-in; c-in = M .c-in; o-in = L .workers-some; e-in = L .entries-some; i-in = M .i-in; old-cell = M .old-cell; old-entry = refl; old-message = M .old-message };
+          placed = cell-placed (M .w-in) (M .c-in) (M .i-in) (M .old-cell) (M .old-message);
           cell-ok = inr (M .cell-ok);
           entry-ok = inl refl;
           message-ok = M .message-ok;
@@ -143,13 +156,12 @@ module _ (𝓜 : Machine) (L : Laws 𝓜) (s : Tables) where
       pub holds-ok : (x y : ℕ) → messageHolds 𝓜 (next 𝓜 s (cellMove 𝓜 s w c (Ex o e n₀ st₀ a₀) (Ex o e n st a) i m₀ m)) x y m ≡ messageHolds 𝓜 s x y m
       pub room : (v : ℕ) → booked s v + bit (goesTo v m) ≤ freeCells 𝓜 s v + bit (goesTo v m₀)
 
-    pub ex-keeps : (w c o e n₀ n : ℕ) (st₀ st : Status) (a₀ a : Bool) (i : ℕ) (m₀ m : Message) → ExMoves w c o e n₀ n st₀ st a₀ a i m₀ m
-        → Keeps 𝓜 s (cellMove 𝓜 s w c (Ex o e n₀ st₀ a₀) (Ex o e n st a) i m₀ m)
-    ex-keeps w c o e n₀ n st₀ st a₀ a i m₀ m M =
-        let f : CellFact 𝓜 s w (Ex o e n₀ st₀ a₀) = subst (CellFact 𝓜 s w) (M .old-cell) (F .cells w c) in
+    pub ex-moves : (w c o e n₀ n : ℕ) (st₀ st : Status) (a₀ a : Bool) (i : ℕ) (m₀ m : Message) → ExMoves w c o e n₀ n st₀ st a₀ a i m₀ m
+        → CellMoves w c (Ex o e n₀ st₀ a₀) (Ex o e n st a) i m₀ m
+    ex-moves w c o e n₀ n st₀ st a₀ a i m₀ m M =
+        let f = cell-fact 𝓜 s F w c (M .old-cell) in
         let inside = cell-inside 𝓜 s w c (ap isFree (M .old-cell)) in
-        cell-keeps w c (Ex o e n₀ st₀ a₀) (Ex o e n st a) i m₀ m
-        (record {
+        record {
           w-in = inside .0;
           c-in = inside .1;
           i-in = M .i-in;
@@ -166,12 +178,8 @@ module _ (𝓜 : Machine) (L : Laws 𝓜) (s : Tables) where
           asks = M .asks;
           weights = M .weights;
           holds-ok = inr (M .holds-ok);
-          room = λ v. let r = M .room v in zeroes v (eqb w v) r;
-        })
-      where
-        zeroes : (v : ℕ) (t : Bool) → booked s v + bit (goesTo v m) ≤ freeCells 𝓜 s v + bit (goesTo v m₀)
-            → booked s v + bit (goesTo v m) + cond t 0 0 ≤ freeCells 𝓜 s v + bit (goesTo v m₀) + cond t 0 0
-        zeroes v t r = omega arith
+          room = λ v. omega (arith, M .room v);
+        }
 
     -- ---- an entry and a slot
     pub record EntryMoves (o e : ℕ) (x₀ x : Holding) (i : ℕ) (m₀ m : Message) : Type 0 where
@@ -195,12 +203,12 @@ module _ (𝓜 : Machine) (L : Laws 𝓜) (s : Tables) where
     pub entry-keeps : (o e : ℕ) (x₀ x : Holding) (i : ℕ) (m₀ m : Message) → EntryMoves o e x₀ x i m₀ m → Keeps 𝓜 s (entryMove 𝓜 s o e x₀ x i m₀ m)
     entry-keeps o e x₀ x i m₀ m M =
         record {
-          placed = record { w-in = L .workers-some; c-in = L .cells-some; o-in = M .o-in; e-in = M .e-in; i-in = M .i-in; old-cell = refl; old-entry = M .old-entry; old-message = M .old-message };
+          placed = entry-placed (M .o-in) (M .e-in) (M .i-in) (M .old-entry) (M .old-message);
           cell-ok = inl refl;
           entry-ok = M .entry-ok;
           message-ok = inr (M .message-ok);
           busy-kept = λ b v. refl;
-          var-kept = λ t v. stays (var-or (cell 𝓜 s 0 0) v);
+          var-kept = λ t v. stays (or-l (isVal (cell 𝓜 s 0 0)) v);
           ex-kept = λ a b t u. t;
           reference-kept = inr (M .reference-kept 0 (cell 𝓜 s 0 0));
           entry-kept = M .entry-kept;
@@ -212,9 +220,6 @@ module _ (𝓜 : Machine) (L : Laws 𝓜) (s : Tables) where
           holds-ok = inr (M .holds-ok);
           room = λ v. omega (arith, M .room v);
         }
-      where
-        var-or : (k : Kind) → isVar k ≡ true → (isVar k || isVal k) ≡ true
-        var-or k t = or-l (isVal k) t
 
 -- ---- the rules' stores are moves
 pub record Stores (𝓜 : Machine) (s s′ : Tables) : Type 0 where
@@ -247,12 +252,7 @@ module _ (𝓜 : Machine) (L : Laws 𝓜) (s : Tables) where
     abbrev pub stores-ex : (w c o e n₀ n : ℕ) (st₀ st : Status) (a₀ a : Bool) (i : ℕ) (m₀ m : Message)
         → ExMoves 𝓜 L s F w c o e n₀ n st₀ st a₀ a i m₀ m → Stores 𝓜 s (putMessage (putCell 𝓜 s w c (Ex o e n st a)) i m)
     stores-ex w c o e n₀ n st₀ st a₀ a i m₀ m M =
-        let inside = cell-inside 𝓜 s w c (ap isFree (M .old-cell)) in
-        record {
-          move = cellMove 𝓜 s w c (Ex o e n₀ st₀ a₀) (Ex o e n st a) i m₀ m;
-          keeps = ex-keeps 𝓜 L s F w c o e n₀ n st₀ st a₀ a i m₀ m M;
-          is = put-cell-message 𝓜 L s w c (Ex o e n₀ st₀ a₀) (Ex o e n st a) i m₀ m (inside .0) (inside .1);
-        }
+        stores-cell-message w c (Ex o e n₀ st₀ a₀) (Ex o e n st a) i m₀ m (ex-moves 𝓜 L s F w c o e n₀ n st₀ st a₀ a i m₀ m M)
 
     abbrev pub stores-entry : (o e : ℕ) (x₀ x : Holding) (i : ℕ) (m₀ m : Message) → EntryMoves 𝓜 L s F o e x₀ x i m₀ m
         → Stores 𝓜 s (putMessage (putEntry 𝓜 s o e x) i m)

@@ -1,7 +1,7 @@
 -- From a test of one part to the part itself: an EX that names an entry, an entry that names a cell. Assumes nothing.
 use Prim.Native.Nat.{ℕ}
 use native.Mathlib.Omega.{arith}
-use mathlib.Core.Path.{_≡_, refl, ap}
+use mathlib.Core.Path.{_≡_, refl, ap, sym, _∙_}
 use mathlib.Core.Bool.{Bool, true, false, _&&_}
 use lib.Dec.{eqb}
 use borrow.Author.Tests.{eqb-true, eq-eqb}
@@ -64,13 +64,10 @@ pub record ExOf (o e : ℕ) (k : Kind) : Type 0 where
   pub is : k ≡ Ex o e weight status asking
 
 pub the-ex-of : (o e : ℕ) (k : Kind) → exNames o e k ≡ true → ExOf o e k
-the-ex-of o e Free h = absurd-bool h refl
-the-ex-of o e Var h = absurd-bool h refl
-the-ex-of o e (Val n) h = absurd-bool h refl
-the-ex-of o e (Ref c) h = absurd-bool h refl
-the-ex-of o e (Ex o′ e′ n st a) h =
-    let q = both-eq o′ o e′ e h in
-    record { weight = n; status = st; asking = a; is = rw (q .0, q .1) }
+the-ex-of o e k h =
+    let x = on-ex (λ owner entr n st a. eqb owner o && eqb entr e) k h in
+    let q = both-eq (x .owner) o (x .entry) e (sym (ap (exNames o e) (x .is)) ∙ h) in
+    record { weight = x .weight; status = x .status; asking = x .asking; is = x .is ∙ rw (q .0, q .1) }
 
 -- nowhere is no entry's place, so what names an entry is an EX
 pub nowhere-at : {X : Type 0} {o e : ℕ} → _≡_ {A = Place} Nowhere (At o e) → X
@@ -108,7 +105,3 @@ pub record IsLive (x : Holding) : Type 0 where
 pub the-live : (x : Holding) → isLive x ≡ true → IsLive x
 the-live Unused h = absurd-bool h refl
 the-live (Live c n t) h = record { cell = c; weight = n; tainted = t; is = refl }
-
-pub not-live : (x : Holding) → isLive x ≡ false → x ≡ Unused
-not-live Unused h = refl
-not-live (Live c n t) h = absurd-bool refl h

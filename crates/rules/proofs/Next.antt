@@ -33,12 +33,14 @@ module _ (𝓜 : Machine) (s : Tables) (h : Move) (z : Sized 𝓜 s) (P : Placed
   pub cell-stored : Stored (cell 𝓜 s) (cell 𝓜 (next 𝓜 s h)) (h .w) (h .c) (h .k₀) (h .k)
   unfolding cell
   cell-stored =
-      rows-stored (λ (y : Cell). y .kind) Free (record { kind = Free }) (𝓜 .workers) (𝓜 .cells) (s .cells) (h .w) (h .c) (h .k₀) (record { kind = h .k }) (z .cells-long) (P .w-in) (P .c-in) (P .old-cell)
+      rows-stored (λ (y : Cell). y .kind) Free (record { kind = Free }) (𝓜 .workers) (𝓜 .cells) (s .cells) (h .w) (h .c) (h .k₀) (record { kind = h .k })
+      (z .cells-long) (P .w-in) (P .c-in) (P .old-cell)
 
   pub entry-stored : Stored (entry 𝓜 s) (entry 𝓜 (next 𝓜 s h)) (h .o) (h .e) (h .x₀) (h .x)
   unfolding entry
   entry-stored =
-      rows-stored (λ (y : Entry). y .holding) Unused (record { holding = Unused }) (𝓜 .workers) (𝓜 .entries) (s .entries) (h .o) (h .e) (h .x₀) (record { holding = h .x }) (z .entries-long) (P .o-in) (P .e-in) (P .old-entry)
+      rows-stored (λ (y : Entry). y .holding) Unused (record { holding = Unused }) (𝓜 .workers) (𝓜 .entries) (s .entries)
+      (h .o) (h .e) (h .x₀) (record { holding = h .x }) (z .entries-long) (P .o-in) (P .e-in) (P .old-entry)
 
   slot-place : h .i < length (s .slots)
   slot-place = omega (arith, z .slots-long, P .i-in)
@@ -74,13 +76,14 @@ module _ (𝓜 : Machine) (s : Tables) (h : Move) (z : Sized 𝓜 s) (P : Placed
   cells-total f =
       let place : h .w * 𝓜 .cells + h .c < 𝓜 .workers * 𝓜 .cells = digits-lt (P .w-in) (P .c-in) in
       let old : kindAt (s .cells) (h .w * 𝓜 .cells + h .c) ≡ h .k₀ = sym (cell-in 𝓜 s (h .w) (h .c) (P .w-in) (P .c-in)) ∙ P .old-cell in
-      omega
-      (arith, ap f old, total-set (λ (y : Cell). f (y .kind)) (s .cells) (h .w * 𝓜 .cells + h .c) (record { kind = h .k }) (record { kind = Free }) (omega (arith, z .cells-long)))
+      let long = z .cells-long in
+      let stored = total-set (λ (y : Cell). f (y .kind)) (s .cells) (h .w * 𝓜 .cells + h .c) (record { kind = h .k }) (record { kind = Free }) (omega arith) in
+      omega (arith, ap f old)
 
   pub slots-total : (f : Message → ℕ) → total (λ y. f (y .message)) (next 𝓜 s h .slots) + f (h .m₀) ≡ total (λ y. f (y .message)) (s .slots) + f (h .m)
   slots-total f =
-      omega
-      (arith, ap f (P .old-message), total-set (λ (y : Slot). f (y .message)) (s .slots) (h .i) (record { message = h .m }) (record { message = Empty }) slot-place)
+      let stored = total-set (λ (y : Slot). f (y .message)) (s .slots) (h .i) (record { message = h .m }) (record { message = Empty }) slot-place in
+      omega (arith, ap f (P .old-message))
 
   -- a worker's free cells
   pub free-count : (v : ℕ)

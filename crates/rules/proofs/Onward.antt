@@ -16,38 +16,41 @@ use Rattle.tables.specs.Machine.{Machine, Tables}
 use Rattle.tables.specs.Parts.{isFree, isVar, isEx, namedBy, isLive, entryNames, cellOf}
 use Rattle.tables.specs.Look.{cell, entry, endKind, safe, exported}
 use Rattle.rules.specs.Chains.{entryEnd, follow, ahead, EndsIn}
-use Rattle.rules.specs.Facts.{CellFact, Facts}
+use Rattle.rules.specs.Facts.{Facts}
 use Rattle.rules.proofs.Named.{nowhere-at, the-live, IsLive}
 use Rattle.rules.proofs.Walks.{ahead-nowhere, follow-live, follow-from}
 use Rattle.rules.proofs.Busy.{exported-by}
-use Rattle.rules.proofs.Derived.{live-fact, LivePlace, follow-place, ahead-place}
-use Rattle.rules.specs.Move.{Move, next, shown, Keeps}
-use Rattle.rules.proofs.Kept.{shown-name, shown-plain, var-val-end, exported-shown, referred-shown, ex-after, VarAfter, var-or-val, ref-to-safe, var-after, live-kept, end-ref, end-self, facts-kept}
+use Rattle.rules.proofs.Derived.{live-fact, LivePlace, follow-place, ahead-place, cell-fact}
+use Rattle.rules.specs.Move.{Move, next, Keeps}
+use Rattle.rules.proofs.Kept.{shown-name, var-val-end, exported-shown, referred-shown, ex-after, VarAfter, var-or-val, ref-to-safe, var-after, live-kept, end-ref, end-self, facts-kept, exported-same}
 
 module _ (𝓜 : Machine) (s : Tables) (h : Move) (F : Facts 𝓜 s) (K : Keeps 𝓜 s h) where
-  F′ : Facts 𝓜 (next 𝓜 s h)
+  abbrev s′ : Tables
+  s′ = next 𝓜 s h
+
+  F′ : Facts 𝓜 s′
   F′ = facts-kept 𝓜 s h F K
 
   -- ---- the end of an exported cell, before and after
   pub data EndKept (v d : ℕ) : Type 0 where
     -- the same value, the same reference, or a VAR that is still one, or has its value
-    as-before : namedBy (endKind 𝓜 (next 𝓜 s h) v d) ≡ namedBy (endKind 𝓜 s v d)
-        → ((n : ℕ) → endKind 𝓜 s v d ≡ Val n → endKind 𝓜 (next 𝓜 s h) v d ≡ Val n) → EndKept v d
+    as-before : namedBy (endKind 𝓜 s′ v d) ≡ namedBy (endKind 𝓜 s v d)
+        → ((n : ℕ) → endKind 𝓜 s v d ≡ Val n → endKind 𝓜 s′ v d ≡ Val n) → EndKept v d
     -- a VAR that is bound to a safe EX
-    newly-bound : (y : ℕ) → cell 𝓜 s v d ≡ Var → endKind 𝓜 (next 𝓜 s h) v d ≡ cell 𝓜 s v y → safe 𝓜 s v (cell 𝓜 s v y) ≡ true → EndKept v d
+    newly-bound : (y : ℕ) → cell 𝓜 s v d ≡ Var → endKind 𝓜 s′ v d ≡ cell 𝓜 s v y → safe 𝓜 s v (cell 𝓜 s v y) ≡ true → EndKept v d
 
   var-end : (v d : ℕ) → exported 𝓜 s v d ≡ true → cell 𝓜 s v d ≡ Var → EndKept v d
-  var-end v d x q = go (cell 𝓜 (next 𝓜 s h) v d) refl (var-after 𝓜 s h F K v d x q)
+  var-end v d x q = go (cell 𝓜 s′ v d) refl (var-after 𝓜 s h F K v d x q)
     where
       was : endKind 𝓜 s v d ≡ Var
       was = end-self 𝓜 s v d Var q refl
 
-      go : (k : Kind) → cell 𝓜 (next 𝓜 s h) v d ≡ k → VarAfter 𝓜 s h F K v k → EndKept v d
+      go : (k : Kind) → cell 𝓜 s′ v d ≡ k → VarAfter 𝓜 s h F K v k → EndKept v d
       go k i (var-or-val t) =
           let r = var-val-end k d t in
-          as-before (ap namedBy (end-self 𝓜 (next 𝓜 s h) v d k i (r .1)) ∙ r .2 ∙ sym (ap namedBy was))
+          as-before (ap namedBy (end-self 𝓜 s′ v d k i (r .1)) ∙ r .2 ∙ sym (ap namedBy was))
           (λ n p. let z : _≡_ {A = ℕ} 0 1 = cc was in absurd (omega arith))
-      go k i (ref-to-safe y e same t) = newly-bound y q (end-ref 𝓜 (next 𝓜 s h) v d y (i ∙ e) ∙ same) t
+      go k i (ref-to-safe y e same t) = newly-bound y q (end-ref 𝓜 s′ v d y (i ∙ e) ∙ same) t
 
   pub end-kept : (v d : ℕ) → exported 𝓜 s v d ≡ true → isFree (cell 𝓜 s v d) ≡ false → EndKept v d
   end-kept v d x nf = go (cell 𝓜 s v d) refl nf
@@ -56,22 +59,21 @@ module _ (𝓜 : Machine) (s : Tables) (h : Move) (F : Facts 𝓜 s) (K : Keeps 
       go Free q t = absurd-bool refl t
       go Var q t = var-end v d x q
       go (Val n) q t =
-          let here : cell 𝓜 (next 𝓜 s h) v d ≡ Val n = shown-plain (cell 𝓜 (next 𝓜 s h) v d) (Val n) refl (exported-shown 𝓜 s h F K v d x (ap isVar q) ∙ ap shown q) in
-          let now = end-self 𝓜 (next 𝓜 s h) v d (Val n) here refl in
+          let here = exported-same 𝓜 s h F K v d (Val n) x q refl refl in
+          let now = end-self 𝓜 s′ v d (Val n) here refl in
           let was = end-self 𝓜 s v d (Val n) q refl in
           as-before (ap namedBy (now ∙ sym was)) (λ m p. now ∙ sym was ∙ p)
       go (Ref y) q t =
-          let here : cell 𝓜 (next 𝓜 s h) v d ≡ Ref y = shown-plain (cell 𝓜 (next 𝓜 s h) v d) (Ref y) refl (exported-shown 𝓜 s h F K v d x (ap isVar q) ∙ ap shown q) in
-          let f : CellFact 𝓜 s v (Ref y) = subst (λ (k : Kind). CellFact 𝓜 s v k) q (F .cells v d) in
-          let now = end-ref 𝓜 (next 𝓜 s h) v d y here in
+          let here = exported-same 𝓜 s h F K v d (Ref y) x q refl refl in
+          let f = cell-fact 𝓜 s F v d q in
+          let now = end-ref 𝓜 s′ v d y here in
           let was = end-ref 𝓜 s v d y q in
-          as-before
-          (ap namedBy now ∙ shown-name Nowhere (λ owner entr. At owner entr) (cell 𝓜 (next 𝓜 s h) v y) (cell 𝓜 s v y) (referred-shown 𝓜 s h F K v d y q (f .1)) ∙ sym (ap namedBy was))
-          (λ n p. absurd-bool (f .1) (ap isEx (sym was ∙ p)))
+          let same = shown-name Nowhere (λ owner entr. At owner entr) (cell 𝓜 s′ v y) (cell 𝓜 s v y) (referred-shown 𝓜 s h F K v d y q (f .1)) in
+          as-before (ap namedBy now ∙ same ∙ sym (ap namedBy was)) (λ n p. absurd-bool (f .1) (ap isEx (sym was ∙ p)))
       go (Ex o e n st a) q t =
-          let x′ = ex-after 𝓜 s h F K v d o e n st a q (exported-shown 𝓜 s h F K v d x (ap isVar q)) in
+          let x′ = ex-after 𝓜 s h F K v d q (exported-shown 𝓜 s h F K v d x (ap isVar q)) in
           let was = end-self 𝓜 s v d (Ex o e n st a) q refl in
-          let now = end-self 𝓜 (next 𝓜 s h) v d (Ex o e (x′ .weight) (x′ .status) (x′ .asking)) (x′ .is) refl in
+          let now = end-self 𝓜 s′ v d (Ex o e (x′ .weight) (x′ .status) (x′ .asking)) (x′ .is) refl in
           as-before (ap namedBy now ∙ sym (ap namedBy was)) (λ m p. let z : _≡_ {A = ℕ} 0 1 = cc in absurd (omega arith))
 
   -- ---- steps
@@ -81,63 +83,63 @@ module _ (𝓜 : Machine) (s : Tables) (h : Move) (F : Facts 𝓜 s) (K : Keeps 
       (exported-by 𝓜 s a (l .cell) b (ap (entryNames (l .cell)) (l .is) ∙ eq-eqb (l .cell) (l .cell) refl), live-fact 𝓜 s F a b l .2)
 
   -- an entry that is live before and after, taken apart: the same cell
-  pub after-live : (a b : ℕ) (l : IsLive (entry 𝓜 s a b)) → isLive (entry 𝓜 (next 𝓜 s h) a b) ≡ true
-      → (n : ℕ) × (t : Bool) × (entry 𝓜 (next 𝓜 s h) a b ≡ Live (l .cell) n t)
+  pub after-live : (a b : ℕ) (l : IsLive (entry 𝓜 s a b)) → isLive (entry 𝓜 s′ a b) ≡ true
+      → (n : ℕ) × (t : Bool) × (entry 𝓜 s′ a b ≡ Live (l .cell) n t)
   after-live a b l t =
-      let l′ = the-live (entry 𝓜 (next 𝓜 s h) a b) t in
+      let l′ = the-live (entry 𝓜 s′ a b) t in
       let r = live-kept 𝓜 s h F K a b (ap isLive (l .is)) t in
       let same : l′ .cell ≡ l .cell = sym (ap cellOf (l′ .is)) ∙ r .0 ∙ ap cellOf (l .is) in
       (l′ .weight, l′ .tainted, l′ .is ∙ ap (λ (y : ℕ). Live y (l′ .weight) (l′ .tainted)) same)
 
   -- a step stays
-  pub follow-kept : (a b o e : ℕ) → follow 𝓜 s (At a b) ≡ At o e → isLive (entry 𝓜 (next 𝓜 s h) a b) ≡ true → follow 𝓜 (next 𝓜 s h) (At a b) ≡ At o e
+  pub follow-kept : (a b o e : ℕ) → follow 𝓜 s (At a b) ≡ At o e → isLive (entry 𝓜 s′ a b) ≡ true → follow 𝓜 s′ (At a b) ≡ At o e
   follow-kept a b o e q t =
       let l = follow-from 𝓜 s a b o e q in
       let l′ = after-live a b l t in
       let x = live-exported a b l in
-      let was : namedBy (endKind 𝓜 s a (l .cell)) ≡ At o e = sym (follow-live 𝓜 s a b (l .cell) (l .weight) (l .tainted) (l .is)) ∙ q in
-      let now = follow-live 𝓜 (next 𝓜 s h) a b (l .cell) (l′ .0) (l′ .1) (l′ .2) in
+      let was : namedBy (endKind 𝓜 s a (l .cell)) ≡ At o e = sym (follow-live 𝓜 s a b (l .is)) ∙ q in
+      let now = follow-live 𝓜 s′ a b (l′ .2) in
       now ∙ go (l .cell) was (end-kept a (l .cell) (x .0) (x .1))
     where
-      go : (d : ℕ) → namedBy (endKind 𝓜 s a d) ≡ At o e → EndKept a d → namedBy (endKind 𝓜 (next 𝓜 s h) a d) ≡ At o e
+      go : (d : ℕ) → namedBy (endKind 𝓜 s a d) ≡ At o e → EndKept a d → namedBy (endKind 𝓜 s′ a d) ≡ At o e
       go d was (as-before p v) = p ∙ was
       go d was (newly-bound y i p v) = nowhere-at (sym (ap namedBy (end-self 𝓜 s a d Var i refl)) ∙ was)
 
   -- and so does a walk from a place that is live after the move
-  pub ahead-kept : (n : ℕ) (p : Place) (o e : ℕ) → LivePlace 𝓜 (next 𝓜 s h) p → ahead 𝓜 s n p ≡ At o e → ahead 𝓜 (next 𝓜 s h) n p ≡ At o e
+  pub ahead-kept : (n : ℕ) (p : Place) (o e : ℕ) → LivePlace 𝓜 s′ p → ahead 𝓜 s n p ≡ At o e → ahead 𝓜 s′ n p ≡ At o e
   unfolding ahead follow
   ahead-kept zero p o e l q = q
   ahead-kept (suc n) Nowhere o e l q = nowhere-at (sym (ahead-nowhere 𝓜 s n) ∙ q)
   ahead-kept (suc n) (At a b) o e l q = go (follow 𝓜 s (At a b)) refl (ahead-kept n (follow 𝓜 s (At a b)) o e)
     where
       go : (r : Place) → follow 𝓜 s (At a b) ≡ r
-          → (LivePlace 𝓜 (next 𝓜 s h) (follow 𝓜 s (At a b)) → ahead 𝓜 s n (follow 𝓜 s (At a b)) ≡ At o e → ahead 𝓜 (next 𝓜 s h) n (follow 𝓜 s (At a b)) ≡ At o e)
-          → ahead 𝓜 (next 𝓜 s h) n (follow 𝓜 (next 𝓜 s h) (At a b)) ≡ At o e
+          → (LivePlace 𝓜 s′ (follow 𝓜 s (At a b)) → ahead 𝓜 s n (follow 𝓜 s (At a b)) ≡ At o e → ahead 𝓜 s′ n (follow 𝓜 s (At a b)) ≡ At o e)
+          → ahead 𝓜 s′ n (follow 𝓜 s′ (At a b)) ≡ At o e
       go Nowhere i rec = nowhere-at (sym (ahead-nowhere 𝓜 s n) ∙ sym (ap (ahead 𝓜 s n) i) ∙ q)
       go (At a′ b′) i rec =
           let kept = follow-kept a b a′ b′ i (l a b refl) in
-          let same : follow 𝓜 (next 𝓜 s h) (At a b) ≡ follow 𝓜 s (At a b) = kept ∙ sym i in
-          ap (ahead 𝓜 (next 𝓜 s h) n) same
-          ∙ rec (subst (LivePlace 𝓜 (next 𝓜 s h)) same (follow-place 𝓜 (next 𝓜 s h) F′ (At a b))) q
+          let same : follow 𝓜 s′ (At a b) ≡ follow 𝓜 s (At a b) = kept ∙ sym i in
+          ap (ahead 𝓜 s′ n) same
+          ∙ rec (subst (LivePlace 𝓜 s′) same (follow-place 𝓜 s′ F′ (At a b))) q
 
   -- a chain that ends in a value goes on to
-  pub ends-kept : (p : Place) (v : ℕ) → LivePlace 𝓜 (next 𝓜 s h) p → EndsIn 𝓜 s p v → EndsIn 𝓜 (next 𝓜 s h) p v
+  pub ends-kept : (p : Place) (v : ℕ) → LivePlace 𝓜 s′ p → EndsIn 𝓜 s p v → EndsIn 𝓜 s′ p v
   ends-kept p v l x =
       let there = ahead-kept (x .steps) p (x .owner) (x .number) l (x .there) in
-      let alive = ahead-place 𝓜 (next 𝓜 s h) F′ (x .steps) p l (x .owner) (x .number) there in
+      let alive = ahead-place 𝓜 s′ F′ (x .steps) p l (x .owner) (x .number) there in
       record { steps = x .steps; owner = x .owner; number = x .number; there = there; value = go (entry 𝓜 s (x .owner) (x .number)) refl (x .value) alive }
     where
       go : (y : Holding) → entry 𝓜 s (x .owner) (x .number) ≡ y → entryEnd 𝓜 s (x .owner) y ≡ Val v
-          → isLive (entry 𝓜 (next 𝓜 s h) (x .owner) (x .number)) ≡ true
-          → entryEnd 𝓜 (next 𝓜 s h) (x .owner) (entry 𝓜 (next 𝓜 s h) (x .owner) (x .number)) ≡ Val v
+          → isLive (entry 𝓜 s′ (x .owner) (x .number)) ≡ true
+          → entryEnd 𝓜 s′ (x .owner) (entry 𝓜 s′ (x .owner) (x .number)) ≡ Val v
       go Unused i q t = let z : _≡_ {A = ℕ} 0 1 = cc in absurd (omega arith)
       go (Live d n b) i q t =
           let lv : IsLive (entry 𝓜 s (x .owner) (x .number)) = record { cell = d; weight = n; tainted = b; is = i } in
           let l′ = after-live (x .owner) (x .number) lv t in
           let r = live-exported (x .owner) (x .number) lv in
-          ap (entryEnd 𝓜 (next 𝓜 s h) (x .owner)) (l′ .2) ∙ value (end-kept (x .owner) d (r .0) (r .1))
+          ap (entryEnd 𝓜 s′ (x .owner)) (l′ .2) ∙ value (end-kept (x .owner) d (r .0) (r .1))
         where
-          value : EndKept (x .owner) d → endKind 𝓜 (next 𝓜 s h) (x .owner) d ≡ Val v
+          value : EndKept (x .owner) d → endKind 𝓜 s′ (x .owner) d ≡ Val v
           value (as-before p w) = w v q
           value (newly-bound y j p w) =
               let was = end-self 𝓜 s (x .owner) d Var j refl in

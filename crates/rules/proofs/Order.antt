@@ -65,8 +65,10 @@ in-order 𝓜 s (Bind w c x) = refl
 in-order 𝓜 s (Export w c to) = go (isEx (endKind 𝓜 s w c))
   where
     -- by reference and by location
-    go : (ex : Bool)
-        → inOrder (sendLines (sound 𝓜 s) (s .p) w to (cell 𝓜 s w c) ++ cond ex (byReferenceLines 𝓜 (endKind 𝓜 s w c) (room 𝓜 s to)) (byLocationLines 𝓜 (used 𝓜 s w (end 𝓜 s w c)) (room 𝓜 s to))) ≡ true
+    lines : Bool → List Check
+    lines ex = cond ex (byReferenceLines 𝓜 (endKind 𝓜 s w c) (room 𝓜 s to)) (byLocationLines 𝓜 (used 𝓜 s w (end 𝓜 s w c)) (room 𝓜 s to))
+
+    go : (ex : Bool) → inOrder (sendLines (sound 𝓜 s) (s .p) w to (cell 𝓜 s w c) ++ lines ex) ≡ true
     go true = refl
     go false = refl
 in-order 𝓜 s (Indirect w c to) = refl

@@ -45,9 +45,9 @@ module _ (𝓜 : Machine) (s : Tables) where
       let a = entry-inside 𝓜 s (l .owner) (l .number) (l .live) .1 in
       let b = entry-inside 𝓜 s (k .owner) (k .number) (k .live) .1 in
       let same : l .owner * 𝓜 .entries + l .number ≡ k .owner * 𝓜 .entries + k .number = sym (ap (index 𝓜) (l .is)) ∙ e ∙ ap (index 𝓜) (k .is) in
-      l .is
-      ∙ ap₂ At (grid-row (𝓜 .entries) (l .owner) (l .number) (k .owner) (k .number) a b same) (grid-column (𝓜 .entries) (l .owner) (l .number) (k .owner) (k .number) a b same)
-      ∙ sym (k .is)
+      let row = grid-row (𝓜 .entries) (l .owner) (l .number) (k .owner) (k .number) a b same in
+      let column = grid-column (𝓜 .entries) (l .owner) (l .number) (k .owner) (k .number) a b same in
+      l .is ∙ ap₂ At row column ∙ sym (k .is)
 
   -- a place from which a walk comes to an entry is a live one
   on-the-way : (m : ℕ) (p : Place) (o e : ℕ) → ahead 𝓜 s (suc m) p ≡ At o e → LiveAt 𝓜 s p
@@ -88,18 +88,12 @@ module _ (𝓜 : Machine) (s : Tables) where
           ahead-add 𝓜 s i (n - j) from ∙ ap (ahead 𝓜 s (n - j)) same ∙ sym (split j n j-in) ∙ q,
         )
 
-    shorten : (fuel n : ℕ) → n ≤ fuel → ahead 𝓜 s n from ≡ At o e → (m : ℕ) × (m < 𝓜 .workers * 𝓜 .entries) × (ahead 𝓜 s m from ≡ At o e)
-    shorten zero n l q = go (decLt n (𝓜 .workers * 𝓜 .entries))
-      where
-        go : Dec (n < 𝓜 .workers * 𝓜 .entries) → (m : ℕ) × (m < 𝓜 .workers * 𝓜 .entries) × (ahead 𝓜 s m from ≡ At o e)
-        go (yes less) = (n, less, q)
-        go (no more) =
-            let c = cut n (omega arith) q in
-            absurd (omega (arith, c .1))
+    shorten : (fuel n : ℕ) → n < fuel → ahead 𝓜 s n from ≡ At o e → (m : ℕ) × (m < 𝓜 .workers * 𝓜 .entries) × (ahead 𝓜 s m from ≡ At o e)
+    shorten zero n l q = absurd (omega arith)
     shorten (suc fuel) n l q = go (decLt n (𝓜 .workers * 𝓜 .entries)) (shorten fuel)
       where
         go : Dec (n < 𝓜 .workers * 𝓜 .entries)
-            → ((k : ℕ) → k ≤ fuel → ahead 𝓜 s k from ≡ At o e → (m : ℕ) × (m < 𝓜 .workers * 𝓜 .entries) × (ahead 𝓜 s m from ≡ At o e))
+            → ((k : ℕ) → k < fuel → ahead 𝓜 s k from ≡ At o e → (m : ℕ) × (m < 𝓜 .workers * 𝓜 .entries) × (ahead 𝓜 s m from ≡ At o e))
             → (m : ℕ) × (m < 𝓜 .workers * 𝓜 .entries) × (ahead 𝓜 s m from ≡ At o e)
         go (yes less) rec = (n, less, q)
         go (no more) rec =
@@ -110,7 +104,7 @@ module _ (𝓜 : Machine) (s : Tables) where
     pub reached-of : (n : ℕ) → ahead 𝓜 s n from ≡ At o e → reached 𝓜 s from o e ≡ true
     unfolding reached
     reached-of n q =
-        let r = shorten n n (omega arith) q in
+        let r = shorten (suc n) n (omega arith) q in
         ahead-walk 𝓜 s o e (r .0) (𝓜 .workers * 𝓜 .entries) from (r .1) (r .2)
 
   pub reached-ahead : (from : Place) (o e : ℕ) → reached 𝓜 s from o e ≡ true → (n : ℕ) × (ahead 𝓜 s n from ≡ At o e)

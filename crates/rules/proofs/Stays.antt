@@ -20,26 +20,29 @@ use Rattle.rules.proofs.Next.{entry-stored}
 use Rattle.rules.proofs.Kept.{live-kept, facts-kept}
 use Rattle.rules.proofs.Walks.{follow-live}
 use Rattle.rules.proofs.Carried.{reads-kept, known-kept-all}
-use Rattle.rules.proofs.Rank.{safe-ex, good-named, ranked-by}
+use Rattle.rules.proofs.Rank.{safe-ex, good-named, ranked-by, Fits}
 
 rankAt : (ℕ → ℕ → ℕ) → Place → ℕ
 rankAt r Nowhere = 0
 rankAt r (At a b) = r a b
 
 module _ (𝓜 : Machine) (s : Tables) (h : Move) (F : Facts 𝓜 s) (K : Keeps 𝓜 s h) where
-  -- a new entry stands above what it leads to; an untainted one at its worker
-  newRank : (ℕ → ℕ → ℕ) → ℕ
-  newRank r = cond (isTainted (h .x)) (suc (h .o + rankAt r (follow 𝓜 (next 𝓜 s h) (At (h .o) (h .e))))) (h .o)
+  abbrev s′ : Tables
+  s′ = next 𝓜 s h
+
+  -- a new entry that is tainted stands above what it leads to, an untainted one at its worker
+  newRank : (ℕ → ℕ → ℕ) → Bool → ℕ
+  newRank r tainted = cond tainted (suc (h .o + rankAt r (follow 𝓜 s′ (At (h .o) (h .e))))) (h .o)
 
   isNew : ℕ → ℕ → Bool
   isNew a b = not (isLive (h .x₀)) && (eqb (h .o) a && eqb (h .e) b)
 
   nextRank : (ℕ → ℕ → ℕ) → ℕ → ℕ → ℕ
-  nextRank r a b = cond (isNew a b) (newRank r) (r a b)
+  nextRank r a b = cond (isNew a b) (newRank r (isTainted (h .x))) (r a b)
 
   agrees : (r : ℕ → ℕ → ℕ) (a b : ℕ) → isLive (entry 𝓜 s a b) ≡ true → nextRank r a b ≡ r a b
   unfolding nextRank isNew
-  agrees r a b l = ap (λ (t : Bool). cond t (newRank r) (r a b)) (not-yes old)
+  agrees r a b l = ap (λ (t : Bool). cond t (newRank r (isTainted (h .x))) (r a b)) (not-yes old)
     where
       old : isNew a b ≡ true → ⊥
       old t =
@@ -48,30 +51,35 @@ module _ (𝓜 : Machine) (s : Tables) (h : Move) (F : Facts 𝓜 s) (K : Keeps 
           let here = ap₂ (entry 𝓜 s) (sym (q .0)) (sym (q .1)) ∙ K .placed .old-entry in
           absurd-bool l (ap isLive here ∙ dead)
 
-  made : (r : ℕ → ℕ → ℕ) → Ranked 𝓜 s r → isLive (h .x₀) ≡ false → isLive (h .x) ≡ true
-      → (h .o ≤ nextRank r (h .o) (h .e)) × (isTainted (h .x) ≡ false → nextRank r (h .o) (h .e) ≡ h .o) × ((o e : ℕ) → isLive (entry 𝓜 s o e) ≡ true → follow 𝓜 (next 𝓜 s h) (At (h .o) (h .e)) ≡ At o e → r o e < nextRank r (h .o) (h .e))
+  made : (r : ℕ → ℕ → ℕ) (R : Ranked 𝓜 s r) → isLive (h .x₀) ≡ false → isLive (h .x) ≡ true → Fits 𝓜 s h F K r R (nextRank r) (h .o) (h .e)
   unfolding nextRank newRank isNew rankAt
   made r R dead live =
       let new : isNew (h .o) (h .e) ≡ true = rw (dead, eq-both (h .o) (h .e)) in
-      let is : nextRank r (h .o) (h .e) ≡ newRank r = ap (λ (t : Bool). cond t (newRank r) (r (h .o) (h .e))) new in
-      (omega (arith, is, at-least (isTainted (h .x))), (λ u. is ∙ ap (λ (t : Bool). cond t (suc (h .o + rankAt r (follow 𝓜 (next 𝓜 s h) (At (h .o) (h .e))))) (h .o)) u), (λ o e l q. omega (arith, is, above (isTainted (h .x)) refl o e l q)))
+      let is : nextRank r (h .o) (h .e) ≡ newRank r (isTainted (h .x)) = rw new in
+      record {
+        low = omega (arith, is, at-least (isTainted (h .x)));
+        own = λ u. is ∙ ap (newRank r) (sym (ap isTainted here) ∙ u);
+        above = λ o e l q. omega (arith, is, above (isTainted (h .x)) refl o e l q);
+      }
     where
-      at-least : (t : Bool) → h .o ≤ cond t (suc (h .o + rankAt r (follow 𝓜 (next 𝓜 s h) (At (h .o) (h .e))))) (h .o)
+      here : entry 𝓜 s′ (h .o) (h .e) ≡ h .x
+      here = entry-stored 𝓜 s h (F .sized) (K .placed) .here
+
+      at-least : (t : Bool) → h .o ≤ newRank r t
       at-least true = omega arith
       at-least false = omega arith
 
-      above : (t : Bool) → isTainted (h .x) ≡ t → (o e : ℕ) → isLive (entry 𝓜 s o e) ≡ true → follow 𝓜 (next 𝓜 s h) (At (h .o) (h .e)) ≡ At o e
-          → r o e < cond t (suc (h .o + rankAt r (follow 𝓜 (next 𝓜 s h) (At (h .o) (h .e))))) (h .o)
+      above : (t : Bool) → isTainted (h .x) ≡ t → (o e : ℕ) → isLive (entry 𝓜 s o e) ≡ true → follow 𝓜 s′ (At (h .o) (h .e)) ≡ At o e → r o e < newRank r t
       above true u o e l q = omega (arith, ap (rankAt r) q)
       above false u o e l q =
           let F′ = facts-kept 𝓜 s h F K in
-          let here = entry-stored 𝓜 s h (F .sized) (K .placed) .here in
-          let lv = the-live (entry 𝓜 (next 𝓜 s h) (h .o) (h .e)) (ap isLive here ∙ live) in
-          let f = live-fact 𝓜 (next 𝓜 s h) F′ (h .o) (h .e) lv in
-          let names : namedBy (endKind 𝓜 (next 𝓜 s h) (h .o) (lv .cell)) ≡ At o e = sym (follow-live 𝓜 (next 𝓜 s h) (h .o) (h .e) (lv .cell) (lv .weight) (lv .tainted) (lv .is)) ∙ q in
+          let lv = the-live (entry 𝓜 s′ (h .o) (h .e)) (ap isLive here ∙ live) in
+          let end = endKind 𝓜 s′ (h .o) (lv .cell) in
+          let names : namedBy end ≡ At o e = sym (follow-live 𝓜 s′ (h .o) (h .e) (lv .is)) ∙ q in
           let clean : lv .tainted ≡ false = sym (ap isTainted (lv .is)) ∙ ap isTainted here ∙ u in
-          let z = safe-ex 𝓜 (next 𝓜 s h) (h .o) o e (endKind 𝓜 (next 𝓜 s h) (h .o) (lv .cell)) (good-named 𝓜 (next 𝓜 s h) (h .o) o e (endKind 𝓜 (next 𝓜 s h) (h .o) (lv .cell)) (f .3 clean) names) names in
-          let alive′ = follow-place 𝓜 (next 𝓜 s h) F′ (At (h .o) (h .e)) o e q in
+          let good = live-fact 𝓜 s′ F′ (h .o) (h .e) lv .3 clean in
+          let z = safe-ex 𝓜 s′ (h .o) o e end (good-named 𝓜 s′ (h .o) o e end good names) names in
+          let alive′ = follow-place 𝓜 s′ F′ (At (h .o) (h .e)) o e q in
           omega (arith, z .0, R .own o e l (sym (live-kept 𝓜 s h F K o e l alive′ .1) ∙ z .1))
 
 -- what a call makes of a sound state is sound, loops included,

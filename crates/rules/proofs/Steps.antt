@@ -4,7 +4,7 @@ use Prim.Native.Nat.{ℕ, _+_, _<_, _≤_}
 use native.Mathlib.Omega.{arith}
 use mathlib.Core.Path.{_≡_, refl, ap, subst}
 use mathlib.Core.Bool.{Bool, true, false, not, cond}
-use mathlib.Core.List.{List, [], _∷_, _++_}
+use mathlib.Core.List.{List, [], _∷_}
 use lib.Dec.{eqb, leb}
 use borrow.Author.Tests.{ltb-true, leb-false, eqb-true}
 use Rattle.numbers.specs.Below.{bit, lowest}
@@ -22,10 +22,10 @@ use Rattle.tables.specs.Parts.{isFree, isVar, isEx, isReading, isAsking, isUnus
 use Rattle.tables.specs.Look.{cell, entry, entryOf, exported, referred, busy, lowestFreeCell, lowestFreeEntry, lowestEmptySlot, booked, freeCells, message, changed}
 use Rattle.rules.specs.Answers.{Check, _when_, refuse, checked}
 use Rattle.rules.specs.Machines.{Laws}
-use Rattle.rules.specs.Facts.{CellFact, Facts}
+use Rattle.rules.specs.Facts.{Facts}
 use Rattle.rules.proofs.Named.{the-entry-of}
 use Rattle.rules.proofs.Busy.{own-entry, naming-ref, not-busy}
-use Rattle.rules.proofs.Derived.{bit-one, live-fact}
+use Rattle.rules.proofs.Derived.{bit-one, live-fact, cell-fact}
 use Rattle.rules.specs.Move.{ReadsOn, TrueValues, Carries, Makes, nothing, moved}
 use Rattle.rules.proofs.Moves.{Stores}
 
@@ -45,13 +45,6 @@ makes-checked 𝓜 s ((why when hit) ∷ l) d new = go hit refl (makes-checked �
         → Makes 𝓜 s (changed 𝓜 s (refuse b why (checked l d) .change))
     go true e rest = nothing
     go false e rest = rest (λ p. new (e, p))
-
--- the tests of two lists, one after the other
-pub passed-both : (l r : List Check) → Passed (l ++ r) → Passed l × Passed r
-passed-both [] r p = (tt, p)
-passed-both ((why when hit) ∷ l) r p =
-    let q = passed-both l r (p .1) in
-    ((p .0, q .0), q .1)
 
 pub not-false : {b : Bool} → not b ≡ false → b ≡ true
 not-false {b = true} e = refl
@@ -90,13 +83,14 @@ pub cond-add : (t : Bool) (a b n : ℕ) → a + b ≡ n → cond t a 0 + cond t 
 cond-add true a b n h = h
 cond-add false a b n h = refl
 
+-- a mark that comes or goes with its message
+pub mark-cond : (t : Bool) → 0 + cond t 1 0 ≡ bit t + cond t 0 0
+mark-cond true = refl
+mark-cond false = refl
+
 pub zero-cond : (t : Bool) → _≡_ {A = ℕ} (cond t 0 0) 0
 zero-cond true = refl
 zero-cond false = refl
-
-pub bit-cond : (t : Bool) → bit t ≡ cond t 1 0
-bit-cond true = refl
-bit-cond false = refl
 
 module _ (𝓜 : Machine) (L : Laws 𝓜) (s : Tables) (F : Facts 𝓜 s) where
   -- ---- what a search found
@@ -104,9 +98,10 @@ module _ (𝓜 : Machine) (L : Laws 𝓜) (s : Tables) (F : Facts 𝓜 s) where
   pub free-cell : (w : ℕ) → 1 ≤ freeCells 𝓜 s w → (lowestFreeCell 𝓜 s w < 𝓜 .cells) × (cell 𝓜 s w (lowestFreeCell 𝓜 s w) ≡ Free)
   unfolding freeCells lowestFreeCell
   free-cell w h =
-      let r = sum-some (𝓜 .cells) (λ c. bit (isFree (cell 𝓜 s w c))) h in
-      let less = ltb-true (lowest (𝓜 .cells) (λ c. isFree (cell 𝓜 s w c))) (𝓜 .cells) (some-of (𝓜 .cells) (λ c. isFree (cell 𝓜 s w c)) (r .0) (r .1) (bit-one (isFree (cell 𝓜 s w (r .0))) (r .2))) in
-      (less, free-is (cell 𝓜 s w (lowestFreeCell 𝓜 s w)) (lowest-at (𝓜 .cells) (λ c. isFree (cell 𝓜 s w c)) less))
+      let free : ℕ → Bool = λ c. isFree (cell 𝓜 s w c) in
+      let r = sum-some (𝓜 .cells) (λ c. bit (free c)) h in
+      let less = ltb-true (lowest (𝓜 .cells) free) (𝓜 .cells) (some-of (𝓜 .cells) free (r .0) (r .1) (bit-one (free (r .0)) (r .2))) in
+      (less, free-is (cell 𝓜 s w (lowestFreeCell 𝓜 s w)) (lowest-at (𝓜 .cells) free less))
 
   pub free-entry : (w : ℕ) → leb (𝓜 .entries) (lowestFreeEntry 𝓜 s w) ≡ false
       → (lowestFreeEntry 𝓜 s w < 𝓜 .entries) × (entry 𝓜 s w (lowestFreeEntry 𝓜 s w) ≡ Unused)
@@ -149,8 +144,7 @@ module _ (𝓜 : Machine) (L : Laws 𝓜) (s : Tables) (F : Facts 𝓜 s) where
           absurd-bool (ap isFree q) (f .2)
       go false x true y =
           let r = naming-ref 𝓜 s w c y in
-          let f : CellFact 𝓜 s w (Ref c) = subst (CellFact 𝓜 s w) (r .1) (F .cells w (r .0)) in
-          absurd-bool (f .1) (ap isEx q)
+          absurd-bool (cell-fact 𝓜 s F w (r .0) (r .1) .1) (ap isEx q)
       go false x false y =
           absurd-bool t (not-busy 𝓜 s w c x y (ap isReading q) (ap isAsking q))
 

@@ -65,8 +65,8 @@ module _ {A : Type 0} {old new : ℕ → ℕ → A} {w c : ℕ} {a b : A} (S : S
     where
       go : (t : Bool) → eqb w v ≡ t → sumBelow n (λ d. g (new v d)) + cond t (g a) 0 ≡ sumBelow n (λ d. g (old v d)) + cond t (g b) 0
       go true t =
-          rw (← eqb-true w v t)
-          (omega (arith, ap g (S .here), ap g (S .was), sum-point n c (λ d. g (new w d)) (λ d. g (old w d)) cn (λ d l ne. ap g (S .there w d (λ i j. ne (sym j))))))
+          let rest = sum-point n c (λ d. g (new w d)) (λ d. g (old w d)) cn (λ d l ne. ap g (S .there w d (λ i j. ne (sym j)))) in
+          rw (← eqb-true w v t) (omega (arith, ap g (S .here), ap g (S .was)))
       go false t =
           omega (arith, sum-cong n (λ d. g (new v d)) (λ d. g (old v d)) (λ d l. ap g (S .there v d (λ i j. eqb-false w v t i))))
 
@@ -90,9 +90,14 @@ module _ {X A : Type 0} (read : X → A) (free : A) (blank : X) (m n : ℕ) wher
       record {
         was = was;
         here = rw (lt-ltb w m wm, lt-ltb c n cn) (ap read (getD-set-same l (w * n + c) x blank (let lt : w * n + c < m * n = digits-lt wm cn in omega arith)));
-        there = λ v d f. inside v d (ltb v m && ltb d n) (λ t. let dn = ltb-true d n (and-r (ltb v m) (ltb d n) t) in λ e. f (grid-row n w c v d cn dn (sym e)) (grid-column n w c v d cn dn (sym e)));
+        there = λ v d f. inside v d (ltb v m && ltb d n) (apart v d f);
       }
     where
+      apart : (v d : ℕ) → (w ≡ v → c ≡ d → ⊥) → (ltb v m && ltb d n) ≡ true → v * n + d ≢ w * n + c
+      apart v d f t e =
+          let dn = ltb-true d n (and-r (ltb v m) (ltb d n) t) in
+          f (grid-row n w c v d cn dn (sym e)) (grid-column n w c v d cn dn (sym e))
+
       inside : (v d : ℕ) (b : Bool) → (b ≡ true → v * n + d ≢ w * n + c)
           → cond b (read (getD (set l (w * n + c) x) (v * n + d) blank)) free ≡ cond b (read (getD l (v * n + d) blank)) free
       inside v d true ne = ap read (getD-set-other l (w * n + c) (v * n + d) x blank (ne refl))

@@ -2,7 +2,7 @@
 use Prim.Native.Nat.{ℕ, _<_, _≤_}
 use native.Mathlib.Omega.{arith}
 use mathlib.Core.Path.{_≡_, refl, sym, ap, _∙_}
-use mathlib.Core.Bool.{Bool, true, false, _&&_, _||_, not, cond}
+use mathlib.Core.Bool.{Bool, true, false, _&&_, _||_, not}
 use lib.Dec.{ltb, leb, eqb}
 use borrow.Author.Tests.{lt-ltb, le-leb, eq-eqb, ne-eqb}
 use Rattle.numbers.specs.Below.{bit}
@@ -19,11 +19,11 @@ use Rattle.tables.specs.Parts.{isFree, readingOf, isReading, isAsking, exNames,
 use Rattle.tables.specs.Look.{cell, entry, endKind, booked, freeCells, message}
 use Rattle.rules.specs.Sound.{readsFor, asksFor, kindInRange, messageInRange, cellInRange, entryInRange, exesNaming, cellNames, entriesNaming, varValOrSafe, entryNamesCell, readsOf, asksOf, cellAwaited, messageHasIts, messageHolds, held, entryWeighs, roomForBooked, point1, point2, point3, point4, point5, point6, sound}
 use Rattle.rules.specs.Machines.{Laws}
-use Rattle.rules.specs.Facts.{CellFact, EntryFact, MessageFact, Facts, Reads}
+use Rattle.rules.specs.Facts.{EntryFact, Facts, Reads}
 use Rattle.rules.proofs.Inside.{cell-inside, each-cell-of, each-entry-of, each-message-of}
 use Rattle.rules.proofs.Named.{eq-both, on-ex, ex-not-free}
 use Rattle.rules.proofs.Reach.{reached-of}
-use Rattle.rules.proofs.Derived.{cell-used, live-used, held-le, held-live, ex-held, ex-live, names-live, sent-held, reading-cell, asking-cell, read-live}
+use Rattle.rules.proofs.Derived.{cell-used, live-used, held-le, held-live, ex-held, ex-live, names-live, sent-held, reading-cell, asking-cell, read-live, cell-fact, message-fact}
 
 -- a test that a count demands only where a mark is set
 awaits : (b : Bool) (n : ℕ) → n ≡ bit b → (not b || eqb n 1) ≡ true
@@ -47,11 +47,8 @@ module _ (𝓜 : Machine) (L : Laws 𝓜) (s : Tables) (F : Facts 𝓜 s) (R : R
   kind-in-range w c Var x = refl
   kind-in-range w c (Val n) x = refl
   kind-in-range w c (Ref d) x =
-      let f : CellFact 𝓜 s w (Ref d) = rw x at (F .cells w c) in
-      lt-ltb d (𝓜 .cells) (cell-inside 𝓜 s w d (ex-not-free (λ o e n st a. true) (cell 𝓜 s w d) (f .1)) .1)
-  kind-in-range w c (Ex o e n st a) x =
-      let f : CellFact 𝓜 s w (Ex o e n st a) = rw x at (F .cells w c) in
-      held-in-range o e n (ex-held 𝓜 s w c o e n st a x) (f .2)
+      lt-ltb d (𝓜 .cells) (cell-inside 𝓜 s w d (ex-not-free (λ o e n st a. true) (cell 𝓜 s w d) (cell-fact 𝓜 s F w c x .1)) .1)
+  kind-in-range w c (Ex o e n st a) x = held-in-range o e n (ex-held 𝓜 s w c x) (cell-fact 𝓜 s F w c x .2)
 
   in-use : (w : ℕ) (b : Bool) → (b ≡ false → w < s .p) → (ltb w (s .p) || b) ≡ true
   in-use w true h = or-true (ltb w (s .p))
@@ -88,18 +85,16 @@ module _ (𝓜 : Machine) (L : Laws 𝓜) (s : Tables) (F : Facts 𝓜 s) (R : R
 
   -- the entry of a Read, and of an Ask, is live
   ask-names : (k a c o e : ℕ) → message s k ≡ Ask a c o e → exNames o e (cell 𝓜 s a c) ≡ true
-  ask-names k a c o e x = rw x at (F .messages k)
+  ask-names k a c o e x = message-fact 𝓜 s F k x
 
   message-in-range : (k : ℕ) (m : Message) → message s k ≡ m → messageInRange 𝓜 s m ≡ true
   message-in-range k Empty x = refl
   message-in-range k (Reference to o e n) x =
-      let f : MessageFact 𝓜 s (Reference to o e n) = rw x at (F .messages k) in
+      let f = message-fact 𝓜 s F k x in
       let u = live-used 𝓜 s F o e (held-live 𝓜 s (F .weighed) o e (omega (arith, reference-held k to o e n x, f .1))) in
       and-i (and-i (and-i (worker-in to (f .0)) (worker-in o (u .0))) (lt-ltb e (𝓜 .entries) (u .1)))
       (le-leb n (𝓜 .ceiling) (omega (arith, reference-held k to o e n x, held-le 𝓜 s F o e)))
-  message-in-range k (Release o e n) x =
-      let f : MessageFact 𝓜 s (Release o e n) = rw x at (F .messages k) in
-      held-in-range o e n (release-held k o e n x) f
+  message-in-range k (Release o e n) x = held-in-range o e n (release-held k o e n x) (message-fact 𝓜 s F k x)
   message-in-range k (Read r c o e) x =
       let u = live-used 𝓜 s F o e (read-live 𝓜 s F R k r c o e x) in
       let p = place-in-range r c (ex-not-free (λ o e n st a. readingOf st) (cell 𝓜 s r c) (read-cell k r c (Read r c o e) x (eq-both r c))) in
@@ -113,7 +108,8 @@ module _ (𝓜 : Machine) (L : Laws 𝓜) (s : Tables) (F : Facts 𝓜 s) (R : R
   message-in-range k (Supply a c n) x =
       let h = ask-cell k a c (Supply a c n) x (eq-both a c) in
       let j = on-ex (λ o e n st a. a) (cell 𝓜 s a c) h in
-      let whole : messageHolds 𝓜 s (j .owner) (j .entry) (Supply a c n) ≡ n = ap (λ (y : Kind). cond (exNames (j .owner) (j .entry) y) n 0) (j .is) ∙ ap (λ (t : Bool). cond t n 0) (eq-both (j .owner) (j .entry)) in
+      let own : exNames (j .owner) (j .entry) (cell 𝓜 s a c) ≡ true = ap (exNames (j .owner) (j .entry)) (j .is) ∙ eq-both (j .owner) (j .entry) in
+      let whole : messageHolds 𝓜 s (j .owner) (j .entry) (Supply a c n) ≡ n = rw own in
       and-i (place-in-range a c (ap isFree (j .is)))
       (le-leb n (𝓜 .ceiling) (omega (arith, sent-held 𝓜 s k (j .owner) (j .entry) n (Supply a c n) x whole, held-le 𝓜 s F (j .owner) (j .entry))))
 
@@ -123,12 +119,10 @@ module _ (𝓜 : Machine) (L : Laws 𝓜) (s : Tables) (F : Facts 𝓜 s) (R : R
   names w c Free x = refl
   names w c Var x = refl
   names w c (Val n) x = refl
-  names w c (Ref d) x =
-      let f : CellFact 𝓜 s w (Ref d) = rw x at (F .cells w c) in
-      f .1
+  names w c (Ref d) x = cell-fact 𝓜 s F w c x .1
   names w c (Ex o e n st a) x =
-      let f : CellFact 𝓜 s w (Ex o e n st a) = rw x at (F .cells w c) in
-      and-i (and-i (and-i (ap not (ne-eqb o w (f .1))) (ex-live 𝓜 s (F .weighed) (F .cells) w c o e n st a x)) (le-leb 1 n (f .2)))
+      let f = cell-fact 𝓜 s F w c x in
+      and-i (and-i (and-i (ap not (ne-eqb o w (f .1))) (ex-live 𝓜 s (F .weighed) (F .cells) w c x)) (le-leb 1 n (f .2)))
       (le-leb (exesNaming 𝓜 s w o e) 1 (count-once (𝓜 .cells) (λ b. exNames o e (cell 𝓜 s w b)) (λ i j a b t u. F .ex-once w i j o e t u)))
 
   names-cell : (w e : ℕ) (x : Holding) → entry 𝓜 s w e ≡ x → entryNamesCell 𝓜 s w e x ≡ true
@@ -157,10 +151,10 @@ module _ (𝓜 : Machine) (L : Laws 𝓜) (s : Tables) (F : Facts 𝓜 s) (R : R
   has-its : (k : ℕ) (m : Message) → message s k ≡ m → messageHasIts 𝓜 s m ≡ true
   has-its k Empty x = refl
   has-its k (Reference to o e n) x =
-      let f : MessageFact 𝓜 s (Reference to o e n) = rw x at (F .messages k) in
+      let f = message-fact 𝓜 s F k x in
       and-i (held-live 𝓜 s (F .weighed) o e (omega (arith, reference-held k to o e n x, f .1))) (le-leb 1 n (f .1))
   has-its k (Release o e n) x =
-      let f : MessageFact 𝓜 s (Release o e n) = rw x at (F .messages k) in
+      let f = message-fact 𝓜 s F k x in
       and-i (held-live 𝓜 s (F .weighed) o e (omega (arith, release-held k o e n x, f))) (le-leb 1 n f)
   has-its k (Read r c o e) x =
       let q = R k in

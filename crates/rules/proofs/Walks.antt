@@ -23,9 +23,9 @@ ahead-nowhere 𝓜 s zero = refl
 ahead-nowhere 𝓜 s (suc n) = ahead-nowhere 𝓜 s n
 
 -- a live entry, taken apart, with what a step from it says
-pub follow-live : (𝓜 : Machine) (s : Tables) (a b d n : ℕ) (t : Bool) → entry 𝓜 s a b ≡ Live d n t → follow 𝓜 s (At a b) ≡ namedBy (endKind 𝓜 s a d)
+pub follow-live : (𝓜 : Machine) (s : Tables) (a b : ℕ) {d n : ℕ} {t : Bool} → entry 𝓜 s a b ≡ Live d n t → follow 𝓜 s (At a b) ≡ namedBy (endKind 𝓜 s a d)
 unfolding follow
-follow-live 𝓜 s a b d n t q = ap (through 𝓜 s a) q
+follow-live 𝓜 s a b q = ap (through 𝓜 s a) q
 
 -- where a step leads somewhere, it is from a live entry
 pub follow-from : (𝓜 : Machine) (s : Tables) (a b o e : ℕ) → follow 𝓜 s (At a b) ≡ At o e → IsLive (entry 𝓜 s a b)
@@ -44,7 +44,8 @@ ahead-add 𝓜 s (suc n) k p = ap (λ (i : ℕ). ahead 𝓜 s i p) (suc-add n k)
 
 pub ends-before : (𝓜 : Machine) (s : Tables) (n : ℕ) (p q : Place) (v : ℕ) → ahead 𝓜 s n p ≡ q → EndsIn 𝓜 s q v → EndsIn 𝓜 s p v
 ends-before 𝓜 s n p q v h x =
-    record { steps = n + x .steps; owner = x .owner; number = x .number; there = ahead-add 𝓜 s n (x .steps) p ∙ ap (ahead 𝓜 s (x .steps)) h ∙ x .there; value = x .value }
+    let there = ahead-add 𝓜 s n (x .steps) p ∙ ap (ahead 𝓜 s (x .steps)) h ∙ x .there in
+    record { steps = n + x .steps; owner = x .owner; number = x .number; there = there; value = x .value }
 
 -- a walk that meets a place is ahead of where it starts
 pub walk-ahead : (𝓜 : Machine) (s : Tables) (o e n : ℕ) (p : Place) → walkMeets (isAt o e) (follow 𝓜 s) n p ≡ true

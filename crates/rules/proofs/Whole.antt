@@ -1,10 +1,10 @@
 -- Demand 3, for every machine whose sizes and weights meet a few laws. Assumes nothing.
-use Prim.Native.Nat.{ℕ, zero, suc, _+_, _≤_}
+use Prim.Native.Nat.{ℕ, zero, suc, _+_, _≤_, _<_}
 use native.Mathlib.Omega.{arith}
 use mathlib.Core.Path.{_≡_, refl, sym, ap, subst, _∙_}
 use mathlib.Core.Bool.{Bool, true, false, _&&_, not, cond}
 use mathlib.Core.List.{List, [], _∷_}
-use mathlib.Core.Logic.{_⊎_, inl, inr}
+use mathlib.Core.Logic.{_⊎_, inl, inr, ⊎-elim}
 use lib.Dec.{eqb}
 use borrow.Author.Tests.{eq-eqb, ne-eqb, not-true}
 use Rattle.numbers.specs.Below.{bit}
@@ -25,11 +25,11 @@ use Rattle.tables.specs.declared.Call.{Call}
 use Rattle.tables.specs.declared.Call.the-variants.{Start, New, Set, Bind, Export, Indirect, Transfer, Drop, ReadCell, AskWeight, Deliver, Bound}
 use Rattle.tables.specs.declared.Effect.{Effect}
 use Rattle.tables.specs.Machine.{Machine, Tables}
-use Rattle.tables.specs.Parts.{isVar, isReading, namedBy, isLive, cellOf, entryWeight, isEmpty}
+use Rattle.tables.specs.Parts.{isReading, namedBy, isLive, cellOf, entryWeight, isEmpty}
 use Rattle.tables.specs.Look.{cell, entry, message, changed}
 use Rattle.rules.specs.Answers.{answered, made, succeeds, checked}
 use Rattle.rules.specs.Sound.{readsFor, readsOf, held, sound}
-use Rattle.rules.specs.Chains.{entryEnd, ahead, EndsIn}
+use Rattle.rules.specs.Chains.{ahead, EndsIn}
 use Rattle.rules.specs.Refusals.{ready, boundRefusals}
 use Rattle.rules.specs.Calls.{start, bound, B}
 use Rattle.rules.specs.Deliver.{deliverHome, deliverAway, deliverRelease, deliverRead, deliverAnswer, deliverSupply, deliverAsk, deliverMessage, deliver}
@@ -47,7 +47,7 @@ use Rattle.rules.proofs.Measure.{measure, measure-bound, StatusOn, Kind
 use Rattle.rules.proofs.Stays.{facts-made, invariant-made}
 use Rattle.rules.proofs.Ends.{own-context}
 use Rattle.rules.proofs.Context.{message-live, context-made, naming-made}
-use Rattle.rules.proofs.Steps.{makes-checked}
+use Rattle.rules.proofs.Steps.{makes-checked, not-false}
 use Rattle.rules.proofs.Local.{new-makes, set-makes, bind-makes, transfer-makes, drop-makes}
 use Rattle.rules.proofs.Send.{export-makes, indirect-makes, read-makes, ask-makes}
 use Rattle.rules.proofs.Arrive.{message-arrives, deliver-makes}
@@ -75,20 +75,24 @@ module _ (𝓜 : Machine) (L : Laws 𝓜) where
   bound-makes s =
       makes-checked 𝓜 s (boundRefusals 𝓜 s) (answered (Done (B 𝓜 s))) (λ p. nothing)
 
-  step-makes : (s : Tables) → Facts 𝓜 s → Reads 𝓜 s → (q : Call) → isStart q ≡ false → Makes 𝓜 s (step 𝓜 s q .after)
+  -- a call is a start, or makes of a sound state what it must
+  call-makes : (s : Tables) → Facts 𝓜 s → Reads 𝓜 s → (q : Call) → ((p : ℕ) × (q ≡ Start p)) ⊎ Makes 𝓜 s (step 𝓜 s q .after)
   unfolding step
-  step-makes s F reads (Start p) n = absurd-bool refl n
-  step-makes s F reads (New w) n = new-makes 𝓜 L s F w
-  step-makes s F reads (Set w c v) n = set-makes 𝓜 L s F w c v
-  step-makes s F reads (Bind w c x) n = bind-makes 𝓜 L s F w c x
-  step-makes s F reads (Export w c to) n = export-makes 𝓜 L s F w c to
-  step-makes s F reads (Indirect w c to) n = indirect-makes 𝓜 L s F w c to
-  step-makes s F reads (Transfer w c to) n = transfer-makes 𝓜 L s F w c to
-  step-makes s F reads (Drop w c) n = drop-makes 𝓜 L s F w c
-  step-makes s F reads (ReadCell w c) n = read-makes 𝓜 L s F w c
-  step-makes s F reads (AskWeight w c) n = ask-makes 𝓜 L s F w c
-  step-makes s F reads (Deliver k) n = deliver-makes 𝓜 L s F reads k
-  step-makes s F reads Bound n = bound-makes s
+  call-makes s F reads (Start p) = inl (p, refl)
+  call-makes s F reads (New w) = inr (new-makes 𝓜 L s F w)
+  call-makes s F reads (Set w c v) = inr (set-makes 𝓜 L s F w c v)
+  call-makes s F reads (Bind w c x) = inr (bind-makes 𝓜 L s F w c x)
+  call-makes s F reads (Export w c to) = inr (export-makes 𝓜 L s F w c to)
+  call-makes s F reads (Indirect w c to) = inr (indirect-makes 𝓜 L s F w c to)
+  call-makes s F reads (Transfer w c to) = inr (transfer-makes 𝓜 L s F w c to)
+  call-makes s F reads (Drop w c) = inr (drop-makes 𝓜 L s F w c)
+  call-makes s F reads (ReadCell w c) = inr (read-makes 𝓜 L s F w c)
+  call-makes s F reads (AskWeight w c) = inr (ask-makes 𝓜 L s F w c)
+  call-makes s F reads (Deliver k) = inr (deliver-makes 𝓜 L s F reads k)
+  call-makes s F reads Bound = inr (bound-makes s)
+
+  step-makes : (s : Tables) → Facts 𝓜 s → Reads 𝓜 s → (q : Call) → isStart q ≡ false → Makes 𝓜 s (step 𝓜 s q .after)
+  step-makes s F reads q n = ⊎-elim (λ x. absurd-bool (ap isStart (x .1)) n) (λ m. m) (call-makes s F reads q)
 
   pub reached-invariant : (s : Tables) → Reached 𝓜 s → Invariant 𝓜 s
   reached-invariant s (begun p ok) = start-invariant 𝓜 p
@@ -100,28 +104,21 @@ module _ (𝓜 : Machine) (L : Laws 𝓜) where
   is-sound : (s : Tables) → Invariant 𝓜 s → sound 𝓜 s ≡ true
   is-sound s I = facts-sound 𝓜 L s (I .facts) (I .reads)
 
-  calls-keep : (s : Tables) → Facts 𝓜 s → Reads 𝓜 s → (q : Call) → isStart q ≡ false → sound 𝓜 (step 𝓜 s q .after) ≡ true
-  calls-keep s F reads q n =
-      let t = facts-made 𝓜 s (step 𝓜 s q .after) F reads (step-makes s F reads q n) in
-      facts-sound 𝓜 L (step 𝓜 s q .after) (t .0) (t .1)
-
   pub calls-keep-sound : CallsKeepSound 𝓜
   unfolding step
-  calls-keep-sound s z h q = go q (calls-keep s (sound-facts 𝓜 L s z h) (sound-reads 𝓜 L s z h))
+  calls-keep-sound s z h q = go (call-makes s F reads q)
     where
-      go : (q : Call) → ((q : Call) → isStart q ≡ false → sound 𝓜 (step 𝓜 s q .after) ≡ true) → sound 𝓜 (step 𝓜 s q .after) ≡ true
-      go (Start p) other = is-sound (start 𝓜 p .after) (start-invariant 𝓜 p)
-      go (New w) other = other (New w) refl
-      go (Set w c v) other = other (Set w c v) refl
-      go (Bind w c x) other = other (Bind w c x) refl
-      go (Export w c to) other = other (Export w c to) refl
-      go (Indirect w c to) other = other (Indirect w c to) refl
-      go (Transfer w c to) other = other (Transfer w c to) refl
-      go (Drop w c) other = other (Drop w c) refl
-      go (ReadCell w c) other = other (ReadCell w c) refl
-      go (AskWeight w c) other = other (AskWeight w c) refl
-      go (Deliver k) other = other (Deliver k) refl
-      go Bound other = other Bound refl
+      F : Facts 𝓜 s
+      F = sound-facts 𝓜 L s z h
+
+      reads : Reads 𝓜 s
+      reads = sound-reads 𝓜 L s z h
+
+      go : ((p : ℕ) × (q ≡ Start p)) ⊎ Makes 𝓜 s (step 𝓜 s q .after) → sound 𝓜 (step 𝓜 s q .after) ≡ true
+      go (inl x) = rw (x .1) (is-sound (start 𝓜 (x .0) .after) (start-invariant 𝓜 (x .0)))
+      go (inr m) =
+          let t = facts-made 𝓜 s (step 𝓜 s q .after) F reads m in
+          facts-sound 𝓜 L (step 𝓜 s q .after) (t .0) (t .1)
 
   -- ---- weights, no loops
   freed : FreedAtNothing 𝓜
@@ -164,26 +161,31 @@ module _ (𝓜 : Machine) (L : Laws 𝓜) where
 
   pub data Delivery (s : Tables) (k : ℕ) : Type 0 where
     refused : holdsReady 𝓜 s k ≡ false → delivers 𝓜 s k ≡ false → made 𝓜 s (deliver 𝓜 s k) .after ≡ s → Delivery s k
-    arrives : isEmpty (message s k) ≡ false → ready 𝓜 s (message s k) ≡ true → deliver 𝓜 s k ≡ deliverMessage 𝓜 s k (message s k) → Delivery s k
+    arrives : holdsReady 𝓜 s k ≡ true → delivers 𝓜 s k ≡ true
+        → ((r : ℕ → ℕ → ℕ) → Ranked 𝓜 s r → Arrived 𝓜 s r (made 𝓜 s (deliver 𝓜 s k) .after)) → Delivery s k
 
   delivery : (s : Tables) → Invariant 𝓜 s → (k : ℕ) → Delivery s k
   unfolding deliver checked
   delivery s I k = go (sound 𝓜 s) (is-sound s I) (isEmpty (message s k)) refl (ready 𝓜 s (message s k)) refl
     where
+      -- what is given to a ready message
+      given : Effect
+      given = deliverMessage 𝓜 s k (message s k)
+
       go : (a : Bool) → sound 𝓜 s ≡ true → (b : Bool) → isEmpty (message s k) ≡ b → (c : Bool) → ready 𝓜 s (message s k) ≡ c → Delivery s k
       go a t true e c f = refused (ap (λ (x : Bool). not x && ready 𝓜 s (message s k)) e) (rw (t, e)) (rw (t, e))
-      go a t false e true f = arrives e f (rw (t, e, f))
+      go a t false e true f =
+          let arrival = message-arrives 𝓜 L s (I .facts) (I .reads) k (message s k) refl e f in
+          arrives (rw (e, f)) (rw (t, e, f) (message-done s k (message s k)))
+          (λ r R. rw (t, e, f) (arrived 𝓜 L s I r R (changed 𝓜 s (given .change)) arrival))
       go a t false e false f = refused (rw (e, f)) (rw (t, e, f)) (rw (t, e, f))
-
-  ready-true : (s : Tables) (k : ℕ) → isEmpty (message s k) ≡ false → ready 𝓜 s (message s k) ≡ true → holdsReady 𝓜 s k ≡ true
-  ready-true s k e f = rw (e, f)
 
   delivers-ready : (s : Tables) → Invariant 𝓜 s → (k : ℕ) → delivers 𝓜 s k ≡ holdsReady 𝓜 s k
   delivers-ready s I k = go (delivery s I k)
     where
       go : Delivery s k → delivers 𝓜 s k ≡ holdsReady 𝓜 s k
       go (refused a b c) = b ∙ sym a
-      go (arrives a b c) = ap (λ (x : Effect). succeeds (x .outcome)) c ∙ message-done s k (message s k) ∙ sym (ready-true s k a b)
+      go (arrives a b x) = b ∙ sym a
 
   -- ---- deliveries in any order: each that succeeds lowers the measure
   few-succeed : (s : Tables) (I : Invariant 𝓜 s) (r : ℕ → ℕ → ℕ) → Ranked 𝓜 s r → (ks : List ℕ) → successes 𝓜 s ks ≤ measure 𝓜 s r
@@ -193,19 +195,10 @@ module _ (𝓜 : Machine) (L : Laws 𝓜) where
     where
       go : Delivery s k → ((t : Tables) → Invariant 𝓜 t → Ranked 𝓜 t r → successes 𝓜 t ks ≤ measure 𝓜 t r)
           → bit (delivers 𝓜 s k) + successes 𝓜 (made 𝓜 s (deliver 𝓜 s k) .after) ks ≤ measure 𝓜 s r
-      go (refused a b c) rec =
-          let rest : successes 𝓜 (made 𝓜 s (deliver 𝓜 s k) .after) ks ≤ measure 𝓜 s r = subst (λ (t : Tables). successes 𝓜 t ks ≤ measure 𝓜 s r) (sym c) (rec s I R) in
-          omega (arith, ap bit b)
-      go (arrives a b c) rec =
-          let x = arrived 𝓜 L s I r R (made 𝓜 s (deliverMessage 𝓜 s k (message s k)) .after) (message-arrives 𝓜 L s (I .facts) (I .reads) k (message s k) refl a b) in
-          let next = made 𝓜 s (deliverMessage 𝓜 s k (message s k)) .after in
-          let same : made 𝓜 s (deliver 𝓜 s k) .after ≡ next = ap (λ (y : Effect). changed 𝓜 s (y .change)) c in
-          let rest : successes 𝓜 (made 𝓜 s (deliver 𝓜 s k) .after) ks ≤ measure 𝓜 next r = subst (λ (t : Tables). successes 𝓜 t ks ≤ measure 𝓜 next r) (sym same) (rec next (x .invariant) (x .ranked)) in
-          omega (arith, x .lower, bit-le (delivers 𝓜 s k))
-        where
-          bit-le : (z : Bool) → bit z ≤ 1
-          bit-le true = omega arith
-          bit-le false = omega arith
+      go (refused a b same) rec = rw (b, same) (omega (arith, rec s I R))
+      go (arrives a b x) rec =
+          let y = x r R in
+          omega (arith, ap bit b, rec (made 𝓜 s (deliver 𝓜 s k) .after) (y .invariant) (y .ranked), y .lower)
 
   at-most-b : AtMostB 𝓜
   at-most-b s r ks =
@@ -213,37 +206,35 @@ module _ (𝓜 : Machine) (L : Laws 𝓜) where
       omega (arith, few-succeed s I (I .rank) (I .ranked) ks, measure-bound 𝓜 L s (I .facts) (I .rank))
 
   -- ---- rest is reached: each ready message that is taken lowers the measure
-  rest-within : (n : ℕ) (s : Tables) (I : Invariant 𝓜 s) (r : ℕ → ℕ → ℕ) → Ranked 𝓜 s r → measure 𝓜 s r ≤ n → (slot : ℕ → ℕ) → TakesReady 𝓜 s slot
-      → (i : ℕ) × (i ≤ n) × AtRest 𝓜 (drained 𝓜 s (slotsTaken 𝓜 slot i))
+  -- the slots taken lead to rest, in fewer than n deliveries
+  abbrev RestsWithin : ℕ → Tables → (ℕ → ℕ) → Type 0
+  RestsWithin n s slot = (i : ℕ) × (i < n) × AtRest 𝓜 (drained 𝓜 s (slotsTaken 𝓜 slot i))
+
+  rest-within : (n : ℕ) (s : Tables) → Invariant 𝓜 s → (r : ℕ → ℕ → ℕ) → Ranked 𝓜 s r → measure 𝓜 s r < n → (slot : ℕ → ℕ) → TakesReady 𝓜 s slot
+      → RestsWithin n s slot
   unfolding drained slotsTaken
-  rest-within zero s I r R few slot takes = go (takes 0) (delivery s I (slot 0))
-    where
-      go : AtRest 𝓜 s ⊎ (holdsReady 𝓜 s (slot 0) ≡ true) → Delivery s (slot 0) → (i : ℕ) × (i ≤ 0) × AtRest 𝓜 (drained 𝓜 s (slotsTaken 𝓜 slot i))
-      go (inl rest) d = (0, omega arith, rest)
-      go (inr is-ready) (refused a b c) = absurd-bool is-ready a
-      go (inr is-ready) (arrives a b c) = absurd (omega (arith, arrived 𝓜 L s I r R (made 𝓜 s (deliverMessage 𝓜 s (slot 0) (message s (slot 0))) .after) (message-arrives 𝓜 L s (I .facts) (I .reads) (slot 0) (message s (slot 0)) refl a b) .lower))
+  rest-within zero s I r R few slot takes = absurd (omega arith)
   rest-within (suc n) s I r R few slot takes =
-      go (takes 0) (delivery s I (slot 0)) (λ t J Q less sl tk. rest-within n t J r Q less sl tk)
+      go (takes 0) (delivery s I (slot 0)) (λ t J Q less. rest-within n t J r Q less (λ i. slot (suc i)))
     where
-      later : ℕ → ℕ
-      later i = slot (suc i)
+      t : Tables
+      t = made 𝓜 s (deliver 𝓜 s (slot 0)) .after
 
       go : AtRest 𝓜 s ⊎ (holdsReady 𝓜 s (slot 0) ≡ true) → Delivery s (slot 0)
-          → ((t : Tables) → Invariant 𝓜 t → Ranked 𝓜 t r → measure 𝓜 t r ≤ n → (sl : ℕ → ℕ) → TakesReady 𝓜 t sl → (i : ℕ) × (i ≤ n) × AtRest 𝓜 (drained 𝓜 t (slotsTaken 𝓜 sl i)))
-          → (i : ℕ) × (i ≤ suc n) × AtRest 𝓜 (drained 𝓜 s (slotsTaken 𝓜 slot i))
+          → ((t : Tables) → Invariant 𝓜 t → Ranked 𝓜 t r → measure 𝓜 t r < n → TakesReady 𝓜 t (λ i. slot (suc i)) → RestsWithin n t (λ i. slot (suc i)))
+          → RestsWithin (suc n) s slot
       go (inl rest) d rec = (0, omega arith, rest)
       go (inr is-ready) (refused a b c) rec = absurd-bool is-ready a
-      go (inr is-ready) (arrives a b c) rec =
-          let x = arrived 𝓜 L s I r R (made 𝓜 s (deliverMessage 𝓜 s (slot 0) (message s (slot 0))) .after) (message-arrives 𝓜 L s (I .facts) (I .reads) (slot 0) (message s (slot 0)) refl a b) in
-          let same : made 𝓜 s (deliver 𝓜 s (slot 0)) .after ≡ made 𝓜 s (deliverMessage 𝓜 s (slot 0) (message s (slot 0))) .after = ap (λ (y : Effect). changed 𝓜 s (y .change)) c in
-          let t = made 𝓜 s (deliver 𝓜 s (slot 0)) .after in
-          let y = rec t (subst (Invariant 𝓜) (sym same) (x .invariant)) (subst (λ (z : Tables). Ranked 𝓜 z r) (sym same) (x .ranked)) (omega (arith, x .lower, ap (λ (z : Tables). measure 𝓜 z r) same)) later (λ i. takes (suc i)) in
-          (suc (y .0), omega (arith, y .1), y .2)
+      go (inr is-ready) (arrives a b x) rec =
+          let y = x r R in
+          let later = rec t (y .invariant) (y .ranked) (omega (arith, y .lower)) (λ i. takes (suc i)) in
+          (suc (later .0), omega (arith, later .1), later .2)
 
   rest-is-reached : RestIsReached 𝓜
-  rest-is-reached s r =
+  rest-is-reached s r slot takes =
       let I = reached-invariant s r in
-      rest-within (B 𝓜 s) s I (I .rank) (I .ranked) (measure-bound 𝓜 L s (I .facts) (I .rank))
+      let x = rest-within (suc (B 𝓜 s)) s I (I .rank) (I .ranked) (omega (arith, measure-bound 𝓜 L s (I .facts) (I .rank))) slot takes in
+      (x .0, omega (arith, x .1), x .2)
 
   -- ---- at rest
   unbound-left : (s : Tables) (m : Message) → (not (isEmpty m) && ready 𝓜 s m) ≡ false → readOfUnbound 𝓜 s m ≡ true
@@ -251,11 +242,7 @@ module _ (𝓜 : Machine) (L : Laws 𝓜) where
   unbound-left s Empty t = refl
   unbound-left s (Reference to o e w) t = absurd-bool refl t
   unbound-left s (Release o e w) t = absurd-bool refl t
-  unbound-left s (Read r c o e) t = twice (isVar (entryEnd 𝓜 s o (entry 𝓜 s o e))) t
-    where
-      twice : (b : Bool) → not b ≡ false → b ≡ true
-      twice true u = refl
-      twice false u = absurd-bool refl u
+  unbound-left s (Read r c o e) t = not-false t
   unbound-left s (Answer r c v) t = absurd-bool refl t
   unbound-left s (Ask a c o e) t = absurd-bool refl t
   unbound-left s (Supply a c w) t = absurd-bool refl t
@@ -303,12 +290,11 @@ module _ (𝓜 : Machine) (L : Laws 𝓜) where
     where
       go : Delivery s k → ((y : Tables) → Invariant 𝓜 y → Told y w c o e v → Told (drained 𝓜 y ks) w c o e v)
           → Told (drained 𝓜 (made 𝓜 s (deliver 𝓜 s k) .after) ks) w c o e v
-      go (refused a b q) rec = subst (λ (y : Tables). Told (drained 𝓜 y ks) w c o e v) (sym q) (rec s I t)
-      go (arrives a b q) rec =
-          let x = arrived 𝓜 L s I (I .rank) (I .ranked) (made 𝓜 s (deliverMessage 𝓜 s k (message s k)) .after) (message-arrives 𝓜 L s (I .facts) (I .reads) k (message s k) refl a b) in
-          let next = made 𝓜 s (deliverMessage 𝓜 s k (message s k)) .after in
-          subst (λ (y : Tables). Told (drained 𝓜 y ks) w c o e v) (sym (ap (λ (y : Effect). changed 𝓜 s (y .change)) q))
-          (rec next (x .invariant) (told-next s next (I .rank) w c o e v x t))
+      go (refused a b same) rec = rw same (rec s I t)
+      go (arrives a b x) rec =
+          let y = x (I .rank) (I .ranked) in
+          let after = made 𝓜 s (deliver 𝓜 s k) .after in
+          rec after (y .invariant) (told-next s after (I .rank) w c o e v y t)
 
   -- at rest nobody on such a chain is still reading
   told-rest : (s : Tables) (w c o e v : ℕ) → Invariant 𝓜 s → AtRest 𝓜 s → Told s w c o e v → KnownWith 𝓜 s w c o e v
@@ -329,12 +315,11 @@ module _ (𝓜 : Machine) (L : Laws 𝓜) where
           go false f u = omega arith
           go true f u =
               let same = both-eq r w d c f in
-              let at : (m : ℕ) × ReadAhead 𝓜 s m (Read r d o′ e′) = subst (λ (y : Message). (m : ℕ) × ReadAhead 𝓜 s m y) i (I .reads k) in
-              let from : namedBy (cell 𝓜 s r d) ≡ At o e = ap (λ (y : ℕ). namedBy (cell 𝓜 s y d)) (same .0) ∙ ap (λ (y : ℕ). namedBy (cell 𝓜 s w y)) (same .1) ∙ ap namedBy q in
+              let at : (m : ℕ) × ReadAhead 𝓜 s m (Read r d o′ e′) = rw i at (I .reads k) in
+              let from : namedBy (cell 𝓜 s r d) ≡ At o e = rw (same .0, same .1, q) in
               let there : ahead 𝓜 s (at .0) (At o e) ≡ At o′ e′ = sym (ap (ahead 𝓜 s (at .0)) from) ∙ at .1 in
-              let left : (not (isEmpty (Read r d o′ e′)) && ready 𝓜 s (Read r d o′ e′)) ≡ false = subst (λ (y : Message). (not (isEmpty y) && ready 𝓜 s y) ≡ false) i (rest k) in
-              on-chain 𝓜 s (At o e) (at .0) v o′ e′ ends there (unbound-left s (Read r d o′ e′) left)
-      pending k (Answer r d u) i t = absurd-bool refl (subst (λ (y : Message). (not (isEmpty y) && ready 𝓜 s y) ≡ false) i (rest k))
+              on-chain 𝓜 s (At o e) (at .0) v o′ e′ ends there (unbound-left s (Read r d o′ e′) (rw i at (rest k)))
+      pending k (Answer r d u) i t = absurd-bool refl (rw i at (rest k))
       pending k (Ask x d o′ e′) i t = omega arith
       pending k (Supply x d u) i t = omega arith
 

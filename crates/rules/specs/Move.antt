@@ -90,16 +90,20 @@ pub record Keeps (𝓜 : Machine) (s : Tables) (h : Move) : Type 0 where
   pub entry-new : (f d : ℕ) → entryNames d (h .x) ≡ true → entryNames d (entry 𝓜 s (h .o) f) ≡ true → f ≡ h .e
   -- marks and messages come and go together
   pub reads : (v d : ℕ)
-      → bit (readsFor v d (h .m)) + cond (eqb (h .w) v && eqb (h .c) d) (bit (isReading (h .k₀))) 0 ≡ bit (readsFor v d (h .m₀)) + cond (eqb (h .w) v && eqb (h .c) d) (bit (isReading (h .k))) 0
+      → bit (readsFor v d (h .m)) + cond (eqb (h .w) v && eqb (h .c) d) (bit (isReading (h .k₀))) 0
+      ≡ bit (readsFor v d (h .m₀)) + cond (eqb (h .w) v && eqb (h .c) d) (bit (isReading (h .k))) 0
   pub asks : (v d : ℕ)
-      → bit (asksFor v d (h .m)) + cond (eqb (h .w) v && eqb (h .c) d) (bit (isAsking (h .k₀))) 0 ≡ bit (asksFor v d (h .m₀)) + cond (eqb (h .w) v && eqb (h .c) d) (bit (isAsking (h .k))) 0
+      → bit (asksFor v d (h .m)) + cond (eqb (h .w) v && eqb (h .c) d) (bit (isAsking (h .k₀))) 0
+      ≡ bit (asksFor v d (h .m₀)) + cond (eqb (h .w) v && eqb (h .c) d) (bit (isAsking (h .k))) 0
   -- the entry's weight changes by what the cell and the message hold; a new message holds the same before and after
   pub weights : (a b : ℕ)
-      → cond (eqb (h .o) a && eqb (h .e) b) (entryWeight (h .x)) 0 + cellHolds 𝓜 s a b (h .k₀) + messageHolds 𝓜 s a b (h .m₀) ≡ cond (eqb (h .o) a && eqb (h .e) b) (entryWeight (h .x₀)) 0 + cellHolds 𝓜 s a b (h .k) + messageHolds 𝓜 s a b (h .m)
+      → cond (eqb (h .o) a && eqb (h .e) b) (entryWeight (h .x)) 0 + cellHolds 𝓜 s a b (h .k₀) + messageHolds 𝓜 s a b (h .m₀)
+      ≡ cond (eqb (h .o) a && eqb (h .e) b) (entryWeight (h .x₀)) 0 + cellHolds 𝓜 s a b (h .k) + messageHolds 𝓜 s a b (h .m)
   pub holds-ok : (h .m ≡ h .m₀) ⊎ ((a b : ℕ) → messageHolds 𝓜 (next 𝓜 s h) a b (h .m) ≡ messageHolds 𝓜 s a b (h .m))
   -- and free cells are still at least those booked
   pub room : (v : ℕ)
-      → booked s v + bit (goesTo v (h .m)) + cond (eqb (h .w) v) (bit (isFree (h .k₀))) 0 ≤ freeCells 𝓜 s v + bit (goesTo v (h .m₀)) + cond (eqb (h .w) v) (bit (isFree (h .k))) 0
+      → booked s v + bit (goesTo v (h .m)) + cond (eqb (h .w) v) (bit (isFree (h .k₀))) 0
+      ≤ freeCells 𝓜 s v + bit (goesTo v (h .m₀)) + cond (eqb (h .w) v) (bit (isFree (h .k))) 0
 
 -- And the entry of a new Read is ahead of its EX's.
 abbrev pub ReadsOn : Machine → Tables → Move → Type 0

@@ -142,7 +142,8 @@ module _ (𝓜 : Machine) where
   abbrev pub RefersToLive : Type 0
   RefersToLive =
       (s : Tables) → Reached 𝓜 s → (o e : ℕ)
-      → ((w c : ℕ) → exNames o e (cell 𝓜 s w c) ≡ true → isLive (entry 𝓜 s o e) ≡ true) × ((k : ℕ) → messageNames o e (message s k) ≡ true → isLive (entry 𝓜 s o e) ≡ true)
+      → ((w c : ℕ) → exNames o e (cell 𝓜 s w c) ≡ true → isLive (entry 𝓜 s o e) ≡ true)
+      × ((k : ℕ) → messageNames o e (message s k) ≡ true → isLive (entry 𝓜 s o e) ≡ true)
 
   -- and goes on to: an EX that stays one names the entry that it named, and a Reference that leaves its slot has gone home to its owner, or
   -- is in an EX of that entry at the worker that it went to.
