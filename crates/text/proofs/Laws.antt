@@ -11,8 +11,7 @@ use Rattle.tables.specs.Machine.{Tables, eight, tables, state}
 use Rattle.rules.specs.Calls.{closed}
 use Rattle.frames.specs.Lines.{linesOf}
 use Rattle.frames.specs.AnswerLines.{tooLongLine, withLine}
-use Rattle.frames.specs.declared.Decoded.{Decoded}
-use Rattle.frames.specs.declared.Decoded.the-variants.{NoFrame, Frame}
+use Rattle.frames.specs.declared.Decoded.{Decoded, the-variants.NoFrame, the-variants.Frame}
 use Rattle.frames.proofs.Written.{line-length, written-length, written-front, written-rest}
 use Rattle.reader.proofs.Laws.{Got}
 use Rattle.text.specs.Text.{printed, after, answersFrom, runText}
@@ -20,6 +19,10 @@ use Rattle.text.specs.Text.{printed, after, answersFrom, runText}
 pub printed-length : (s : Tables) (f : Decoded) → length (printed s f) ≡ 11
 printed-length s NoFrame = line-length _ _
 printed-length s (Frame call) = line-length _ _
+
+-- the n bytes of the answers stand in out, and behind them what stood there
+abbrev pub Filled : List ℕ → List ℕ → List ℕ → ℕ → Type 0
+Filled answers out₀ out n = (n ≡ length answers) × (out ≡ answers ++ drop n out₀)
 
 -- the place in the input, what stands in out up to pos, and the state then
 pub record Running (input out₀ : List ℕ) (s : State) (at pos : ℕ) (out : List ℕ) : Type 0 where
@@ -39,23 +42,22 @@ module _ {input out₀ out : List ℕ} {s : State} {at pos : ℕ} (p : Running i
     pub run-room : pos + 11 ≤ length out
     run-room = omega (arith, p .same, p .bound, g .within)
 
-    pub run-turn : (s′ : State) (out′ : List ℕ) → s′ ≡ state (after (tables s) frame) → out′ ≡ withLine out pos (printed (tables s) frame) → Running input out₀ s′ next (pos + 11) out′
+    pub run-turn : (s′ : State) (out′ : List ℕ) → s′ ≡ state (after (tables s) frame) → out′ ≡ withLine out pos (printed (tables s) frame)
+        → Running input out₀ s′ next (pos + 11) out′
     unfolding answersFrom
     run-turn s′ out′ e e′ =
         let r = run-room in
         let l = printed-length (tables s) frame in
         let same = written-length out pos (printed (tables s) frame) r l in
-        let front = written-front out pos (printed (tables s) frame) r l in
-        let back = written-rest out pos (printed (tables s) frame) r l in
         record {
           same = rw e′ (same ∙ p .same);
           bound = omega (arith, p .bound, g .later);
           inside = rw (e′, same) r;
-          rest = rw e′ (back ∙ sym (drop-drop 11 pos out) ∙ ap (drop 11) (p .rest) ∙ drop-drop 11 pos out₀);
-          sofar = p .sofar ∙ rw (e′, front, e, g .lines, g .says, append-assoc);
+          rest = rw e′ (written-rest out pos _ r l ∙ sym (drop-drop 11 pos out) ∙ ap (drop 11) (p .rest) ∙ drop-drop 11 pos out₀);
+          sofar = p .sofar ∙ rw (e′, written-front out pos _ r l, e, g .lines, g .says, append-assoc);
         }
 
-  pub run-end : linesOf (drop at input) ≡ [] → (pos ≡ length (answersFrom (closed eight) (linesOf input))) × (out ≡ answersFrom (closed eight) (linesOf input) ++ drop pos out₀)
+  pub run-end : linesOf (drop at input) ≡ [] → Filled (answersFrom (closed eight) (linesOf input)) out₀ out pos
   unfolding answersFrom
   run-end e =
       let all : answersFrom (closed eight) (linesOf input) ≡ take pos out = p .sofar ∙ rw (e, append-nil) in
@@ -63,11 +65,10 @@ module _ {input out₀ out : List ℕ} {s : State} {at pos : ℕ} (p : Running i
 
 -- the whole text: within the limit, and beyond it
 module _ (input out₀ out : List ℕ) where
-  pub run-short : (n : ℕ) → length input ≤ 65536 → (n ≡ length (answersFrom (closed eight) (linesOf input))) × (out ≡ answersFrom (closed eight) (linesOf input) ++ drop n out₀)
-      → (n ≡ length (runText input)) × (out ≡ runText input ++ drop n out₀)
+  pub run-short : (n : ℕ) → length input ≤ 65536 → Filled (answersFrom (closed eight) (linesOf input)) out₀ out n → Filled (runText input) out₀ out n
   unfolding runText
   run-short n small e = rw (le-ltb _ _ small) e
 
-  pub run-long : 65536 < length input → out ≡ withLine out₀ 0 tooLongLine → (11 ≡ length (runText input)) × (out ≡ runText input ++ drop 11 out₀)
+  pub run-long : 65536 < length input → out ≡ withLine out₀ 0 tooLongLine → Filled (runText input) out₀ out 11
   unfolding runText
   run-long big e = rw (lt-ltb _ _ big, e) (sym (line-length _ _), refl)

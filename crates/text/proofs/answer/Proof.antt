@@ -17,4 +17,5 @@ answer-spec =
     (λ c.
     let e = c .before .before .before .before .before .before .before .before .frame .given .1 in
     let r = c .before .before .before .before .before .before .step .ensures in
-    (rw e (ap (λ (x : Reply). x .state) r), rw (e, ← ap (λ (x : Reply). answerLine (x .outcome)) r, ← c .before .before .before .answer-line .ensures) (c .before .before .put2 .ensures))))
+    let printed = ap (λ (x : Reply). answerLine (x .outcome)) r in
+    (rw e (ap (λ (x : Reply). x .state) r), rw (e, ← printed, ← c .before .before .before .answer-line .ensures) (c .before .before .put2 .ensures))))

@@ -8,6 +8,9 @@ pub run-text-spec : {M : Type 1} → statement M
 run-text-spec =
     tie.close
     (tie.spec (λ c κs. search needs) (λ c κs. search needs) (λ c. search needs)
-    (λ c. run-long (c .before .before .before .before .before .before .before .before .args .input .now) (c .before .before .before .before .before .before .before .before .args .out .now) _ (c .before .before .before .before .before .if1 .taken) (rw (← c .before .before .before .too-long-line .ensures) (c .before .before .put .ensures)))
+    (λ c.
+    let long = c .before .before .before .before .before in
+    let a = long .before .before .before .args in
+    run-long (a .input .now) (a .out .now) _ (long .if1 .taken) (rw (← c .before .before .before .too-long-line .ensures) (c .before .before .put .ensures)))
     (λ c κs. search needs) (λ c. search needs)
     (λ c. run-short _ _ _ _ (c .before .before .before .before .if1 .left) (c .before .before .run-lines .ensures)))
