@@ -4,5 +4,6 @@ use Rattle.changes.proofs.by_reference.Tie as tie
 
 pub by-reference-spec : {M : Type 1} → statement M
 by-reference-spec =
-    let returns : tie.Need-returns = λ c. rw (c .with-cell-and-message .ensures, c .before .sends .ensures, c .before .before .keeps .ensures) in
-    tie.close (search tie.spec)
+    tie.close
+    (tie.spec _ _ _
+    (λ c. rw (c .with-cell-and-message .ensures, c .before .sends .ensures, c .before .before .keeps .ensures)))

@@ -4,7 +4,7 @@ use Rattle.changes.proofs.dropped.Tie as tie
 
 pub dropped-spec : {M : Type 1} → statement M
 dropped-spec =
-    let returns : tie.Need-returns = λ c.
-    rw (c .with-cell-and-message .ensures, c .before .releases .ensures, ← c .before .before .before .is-ex .ensures, c .before .before .if1 .taken) in
-    let returns-2 : tie.Need-returns-2 = λ c. rw (c .with-cell .ensures, ← c .before .before .is-ex .ensures, c .before .if1 .left) in
-    tie.close (search tie.spec)
+    tie.close
+    (tie.spec _ _ _ _
+    (λ c. rw (c .with-cell-and-message .ensures, c .before .releases .ensures, ← c .before .before .before .is-ex .ensures, c .before .before .if1 .taken))
+    (λ c. rw (c .with-cell .ensures, ← c .before .before .is-ex .ensures, c .before .if1 .left)))

@@ -8,7 +8,8 @@ use Rattle.changes.proofs.entry_to_use.Tie as tie
 pub entry-to-use-spec : {M : Type 1} → statement M
 unfolding exported entryToUse
 entry-to-use-spec =
-    let returns : tie.Need-returns = λ c t e. rw (← c .before .entry-of .ensures t e, lt-ltb _ _ (c .if1 .taken)) in
-    let returns-2 : tie.Need-returns-2 = λ c t e.
-    rw (c .lowest-free-entry .ensures t e, ← c .before .before .entry-of .ensures t e, le-ltb _ _ (c .before .if1 .left)) in
-    tie.close (search tie.spec)
+    tie.close
+    (tie.spec _
+    (λ c t e. rw (← c .before .entry-of .ensures t e, lt-ltb _ _ (c .if1 .taken)))
+    _
+    (λ c t e. rw (c .lowest-free-entry .ensures t e, ← c .before .before .entry-of .ensures t e, le-ltb _ _ (c .before .if1 .left))))

@@ -4,6 +4,7 @@ use Rattle.changes.proofs.export_end.Tie as tie
 
 pub export-end-spec : {M : Type 1} → statement M
 export-end-spec =
-    let returns : tie.Need-returns = λ c h. rw (c .by-reference .ensures, ← c .before .before .is-ex .ensures, c .before .if1 .taken) in
-    let returns-2 : tie.Need-returns-2 = λ c h. rw (c .by-location .ensures h, ← c .before .before .is-ex .ensures, c .before .if1 .left) in
-    tie.close (search tie.spec)
+    tie.close
+    (tie.spec _ _ _
+    (λ c h. rw (c .by-reference .ensures, ← c .before .before .is-ex .ensures, c .before .if1 .taken))
+    (λ c h. rw (c .by-location .ensures h, ← c .before .before .is-ex .ensures, c .before .if1 .left)))

@@ -4,5 +4,6 @@ use Rattle.changes.proofs.replied.Tie as tie
 
 pub replied-spec : {M : Type 1} → statement M
 replied-spec =
-    let returns : tie.Need-returns = λ c. rw (c .changed .ensures) in
-    tie.close (search tie.spec)
+    tie.close
+    (tie.spec _
+    (λ c. rw (c .changed .ensures)))

@@ -4,5 +4,6 @@ use Rattle.changes.proofs.transferred.Tie as tie
 
 pub transferred-spec : {M : Type 1} → statement M
 transferred-spec =
-    let returns : tie.Need-returns = λ c. rw (c .with-cell-and-message .ensures, c .before .sends-whole .ensures) in
-    tie.close (search tie.spec)
+    tie.close
+    (tie.spec _ _
+    (λ c. rw (c .with-cell-and-message .ensures, c .before .sends-whole .ensures)))

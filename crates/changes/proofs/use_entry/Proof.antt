@@ -4,5 +4,6 @@ use Rattle.changes.proofs.use_entry.Tie as tie
 
 pub use-entry-spec : {M : Type 1} → statement M
 use-entry-spec =
-    let returns : tie.Need-returns = λ c t e. rw (c .entry-at .ensures t e, c .before .entry-to-use .ensures t e) in
-    tie.close (search tie.spec)
+    tie.close
+    (tie.spec _ _
+    (λ c t e. rw (c .entry-at .ensures t e, c .before .entry-to-use .ensures t e)))

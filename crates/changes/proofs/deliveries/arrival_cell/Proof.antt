@@ -7,7 +7,8 @@ use Rattle.changes.proofs.deliveries.arrival_cell.Tie as tie
 pub arrival-cell-spec : {M : Type 1} → statement M
 unfolding arrivalCell
 arrival-cell-spec =
-    let returns : tie.Need-returns = λ c t e. rw (← c .before .ex-naming .ensures t e, lt-ltb _ _ (c .if1 .taken)) in
-    let returns-2 : tie.Need-returns-2 = λ c t e.
-    rw (c .lowest-free-cell .ensures t e, ← c .before .before .ex-naming .ensures t e, le-ltb _ _ (c .before .if1 .left)) in
-    tie.close (search tie.spec)
+    tie.close
+    (tie.spec _
+    (λ c t e. rw (← c .before .ex-naming .ensures t e, lt-ltb _ _ (c .if1 .taken)))
+    _
+    (λ c t e. rw (c .lowest-free-cell .ensures t e, ← c .before .before .ex-naming .ensures t e, le-ltb _ _ (c .before .if1 .left))))

@@ -6,5 +6,6 @@ use Rattle.changes.proofs.deliveries.deliver_answer.Tie as tie
 pub deliver-answer-spec : {M : Type 1} → statement M
 unfolding deliverAnswer
 deliver-answer-spec =
-    let returns : tie.Need-returns = λ c t e. rw (c .with-cell-and-message .ensures, c .before .known .ensures, c .before .before .cell-at .ensures t e) in
-    tie.close (search tie.spec)
+    tie.close
+    (tie.spec _ _ _
+    (λ c t e. rw (c .with-cell-and-message .ensures, c .before .known .ensures, c .before .before .cell-at .ensures t e)))

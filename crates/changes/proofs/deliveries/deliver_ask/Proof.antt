@@ -6,8 +6,9 @@ use Rattle.changes.proofs.deliveries.deliver_ask.Tie as tie
 pub deliver-ask-spec : {M : Type 1} → statement M
 unfolding deliverAsk
 deliver-ask-spec =
-    let returns : tie.Need-returns = λ c t e.
+    tie.close
+    (tie.spec _ _ _ _ _
+    (λ c t e.
     let d = c .before .before .before .before in
-    rw (c .with-entry-and-message .ensures, c .before .grown .ensures)
-    (rw (c .before .before .supply-from .ensures, c .before .before .before .entry-weight .ensures, d .entry-at .ensures t e)) in
-    tie.close (search tie.spec)
+    rw (c .with-entry-and-message .ensures, c .before .grown .ensures, c .before .before .supply-from .ensures)
+    (rw (c .before .before .before .entry-weight .ensures, d .entry-at .ensures t e))))

@@ -8,9 +8,9 @@ use Rattle.changes.proofs.deliveries.deliver_away.Tie as tie
 pub deliver-away-spec : {M : Type 1} → statement M
 unfolding deliverAway
 deliver-away-spec =
-    let cast-t10 : tie.Need-cast-t10 = λ c. search needs in
-    let returns : tie.Need-returns = λ c t e h q.
+    tie.close
+    (tie.spec _ _ _ (λ c. search needs) _
+    (λ c t e h q.
     let d = c .before in
     let here = d .before .cell-at .ensures t e in
-    rw (c .with-cell-and-message .ensures, d .joined .ensures q (rw here (cell-weight _ _ h _ _)), here, d .before .before .arrival-cell .ensures t e) in
-    tie.close (search tie.spec)
+    rw (c .with-cell-and-message .ensures, d .joined .ensures q (rw here (cell-weight _ _ h _ _)), here, d .before .before .arrival-cell .ensures t e)))

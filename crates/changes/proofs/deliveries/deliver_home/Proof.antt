@@ -7,8 +7,8 @@ use Rattle.changes.proofs.deliveries.deliver_home.Tie as tie
 pub deliver-home-spec : {M : Type 1} → statement M
 unfolding deliverHome
 deliver-home-spec =
-    let cast-t10 : tie.Need-cast-t10 = λ c. search needs in
-    let returns : tie.Need-returns = λ c t e.
+    tie.close
+    (tie.spec _ _ (λ c. search needs) _ _
+    (λ c t e.
     let d = c .before .before in
-    rw (c .with-entry-and-message .ensures, c .before .taken-off .ensures, d .cell-of .ensures, d .before .entry-at .ensures t e) in
-    tie.close (search tie.spec)
+    rw (c .with-entry-and-message .ensures, c .before .taken-off .ensures, d .cell-of .ensures, d .before .entry-at .ensures t e)))

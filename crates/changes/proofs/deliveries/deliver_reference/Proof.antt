@@ -7,6 +7,8 @@ use Rattle.changes.proofs.deliveries.deliver_reference.Tie as tie
 pub deliver-reference-spec : {M : Type 1} → statement M
 unfolding deliverMessage
 deliver-reference-spec =
-    let returns : tie.Need-returns = λ c t e f h q. rw (c .deliver-home .ensures t f, eq-eqb _ _ (c .before .if1 .taken)) in
-    let returns-2 : tie.Need-returns-2 = λ c t e f h q. rw (c .deliver-away .ensures t e h q, ne-eqb _ _ (c .before .if1 .left)) in
-    tie.close (search tie.spec)
+    tie.close
+    (tie.spec _
+    (λ c t e f h q. rw (c .deliver-home .ensures t f, eq-eqb _ _ (c .before .if1 .taken)))
+    _
+    (λ c t e f h q. rw (c .deliver-away .ensures t e h q, ne-eqb _ _ (c .before .if1 .left))))

@@ -6,6 +6,6 @@ use Rattle.changes.proofs.deliveries.deliver_release.Tie as tie
 pub deliver-release-spec : {M : Type 1} → statement M
 unfolding deliverRelease
 deliver-release-spec =
-    let returns : tie.Need-returns = λ c t e.
-    rw (c .with-entry-and-message .ensures, c .before .taken-off .ensures, c .before .before .entry-at .ensures t e) in
-    tie.close (search tie.spec)
+    tie.close
+    (tie.spec _ _ _
+    (λ c t e. rw (c .with-entry-and-message .ensures, c .before .taken-off .ensures, c .before .before .entry-at .ensures t e)))

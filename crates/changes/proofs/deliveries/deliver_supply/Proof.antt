@@ -7,8 +7,9 @@ use Rattle.changes.proofs.deliveries.deliver_supply.Tie as tie
 pub deliver-supply-spec : {M : Type 1} → statement M
 unfolding deliverSupply
 deliver-supply-spec =
-    let returns : tie.Need-returns = λ c t e h q.
+    tie.close
+    (tie.spec _ _ _
+    (λ c t e h q.
     let d = c .before in
     let here = d .before .cell-at .ensures t e in
-    rw (c .with-cell-and-message .ensures, d .supplied .ensures q (rw here (cell-weight _ _ h _ _)), here) in
-    tie.close (search tie.spec)
+    rw (c .with-cell-and-message .ensures, d .supplied .ensures q (rw here (cell-weight _ _ h _ _)), here)))

@@ -6,9 +6,9 @@ use Rattle.changes.proofs.deliveries.supplied.Tie as tie
 
 pub supplied-spec : {M : Type 1} → statement M
 supplied-spec =
-    let enum-known-k : tie.Need-enum-known-k = λ c. search needs in
-    let returns : tie.Need-returns = λ c p q.
+    tie.close
+    (tie.spec (λ c. search needs) _
+    (λ c p q.
     let is = c .before .before .k .given .1 in
-    rw (c .add-weights .ensures (rw is at q) p, is) in
-    let returns-2 : tie.Need-returns-2 = λ c p q. not-ex _ (c .before .args .k) (c .match .keys2) in
-    tie.close (search tie.spec)
+    rw (c .add-weights .ensures (rw is at q) p, is))
+    (λ c p q. not-ex _ (c .before .args .k) (c .match .keys2)))
