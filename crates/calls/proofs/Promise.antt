@@ -29,18 +29,18 @@ use Rattle.rules.specs.Machines.{Sized}
 use Rattle.rules.specs.Step.{isStart, step, drained, successes, Reached, begun, after}
 use Rattle.rules.specs.Statements.{messageNames, ComesToAnEnd, holdsReady, AtRest, readOfUnbound, KnownWith, KeepsNaming, KeepsContext}
 use Rattle.rules.proofs.Eight.{demand-3-of-eight, calls-keep-sound-of-eight}
-use Rattle.calls.proofs.start.Reads as start-contract
-use Rattle.calls.proofs.new.Reads as new-contract
-use Rattle.calls.proofs.set.Reads as set-contract
-use Rattle.calls.proofs.bind.Reads as bind-contract
-use Rattle.calls.proofs.export.Reads as export-contract
-use Rattle.calls.proofs.indirect.Reads as indirect-contract
-use Rattle.calls.proofs.transfer.Reads as transfer-contract
-use Rattle.calls.proofs.drop.Reads as drop-contract
-use Rattle.calls.proofs.read.Reads as read-contract
-use Rattle.calls.proofs.ask.Reads as ask-contract
-use Rattle.calls.proofs.bound.Reads as bound-contract
-use Rattle.calls.proofs.deliver.Reads as deliver-contract
+use Rattle.quiet.proofs.start.Reads as start-contract
+use Rattle.quiet.proofs.new.Reads as new-contract
+use Rattle.quiet.proofs.set.Reads as set-contract
+use Rattle.quiet.proofs.bind.Reads as bind-contract
+use Rattle.sending.proofs.export.Reads as export-contract
+use Rattle.sending.proofs.indirect.Reads as indirect-contract
+use Rattle.sending.proofs.transfer.Reads as transfer-contract
+use Rattle.sending.proofs.drop.Reads as drop-contract
+use Rattle.sending.proofs.read.Reads as read-contract
+use Rattle.sending.proofs.ask.Reads as ask-contract
+use Rattle.quiet.proofs.bound.Reads as bound-contract
+use Rattle.deliveries.proofs.deliver.Reads as deliver-contract
 use Rattle.calls.proofs.step.Reads as step-contract
 
 -- the result r meets a contract for the arguments a

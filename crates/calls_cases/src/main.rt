@@ -187,51 +187,51 @@ fn show(name: &[u8], a: u8, b: u8, c: u8, reply: Reply) -> State {
 }
 
 fn start(p: u8) -> State {
-    show(b"start", p, 0, 0, calls::start(p))
+    show(b"start", p, 0, 0, quiet::start(p))
 }
 
 fn new(s: State, w: u8) -> State {
-    show(b"new", w, 0, 0, calls::new(s, w))
+    show(b"new", w, 0, 0, quiet::new(s, w))
 }
 
 fn set(s: State, w: u8, c: u8, n: u32) -> State {
-    show(b"set", w, c, 0, calls::set(s, w, c, n))
+    show(b"set", w, c, 0, quiet::set(s, w, c, n))
 }
 
 fn bind(s: State, w: u8, c: u8, x: u8) -> State {
-    show(b"bind", w, c, x, calls::bind(s, w, c, x))
+    show(b"bind", w, c, x, quiet::bind(s, w, c, x))
 }
 
 fn export(s: State, w: u8, c: u8, to: u8) -> State {
-    show(b"export", w, c, to, calls::export(s, w, c, to))
+    show(b"export", w, c, to, sending::export(s, w, c, to))
 }
 
 fn indirect(s: State, w: u8, c: u8, to: u8) -> State {
-    show(b"indirect", w, c, to, calls::indirect(s, w, c, to))
+    show(b"indirect", w, c, to, sending::indirect(s, w, c, to))
 }
 
 fn transfer(s: State, w: u8, c: u8, to: u8) -> State {
-    show(b"transfer", w, c, to, calls::transfer(s, w, c, to))
+    show(b"transfer", w, c, to, sending::transfer(s, w, c, to))
 }
 
 fn drop(s: State, w: u8, c: u8) -> State {
-    show(b"drop", w, c, 0, calls::drop(s, w, c))
+    show(b"drop", w, c, 0, sending::drop(s, w, c))
 }
 
 fn read(s: State, w: u8, c: u8) -> State {
-    show(b"read", w, c, 0, calls::read(s, w, c))
+    show(b"read", w, c, 0, sending::read(s, w, c))
 }
 
 fn ask(s: State, w: u8, c: u8) -> State {
-    show(b"ask", w, c, 0, calls::ask(s, w, c))
+    show(b"ask", w, c, 0, sending::ask(s, w, c))
 }
 
 fn deliver(s: State, slot: u8) -> State {
-    show(b"deliver", slot, 0, 0, calls::deliver(s, slot))
+    show(b"deliver", slot, 0, 0, deliveries::deliver(s, slot))
 }
 
 fn bound(s: State) -> State {
-    show(b"bound", 0, 0, 0, calls::bound(s))
+    show(b"bound", 0, 0, 0, quiet::bound(s))
 }
 
 // The call is not written, its answer is.

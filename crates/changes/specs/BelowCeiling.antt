@@ -7,7 +7,7 @@ use mathlib.Core.List.{List}
 use mathlib.Core.Logic.{⊎-elim}
 use lib.Dec.{ltb, leb}
 use lib.ListN.{length, getD, List·getD-eq-default}
-use borrow.Author.Tests.{ltb-true, ltb-false, le-leb, leb-true}
+use borrow.Author.Tests.{ltb-true, ltb-false, le-ltb, le-leb, leb-true}
 use Rattle.numbers.specs.Lists.{each}
 use Rattle.numbers.specs.ListLaws.{each-at}
 use Rattle.numbers.specs.Tests.{and-l, and-r, or-else}
@@ -22,6 +22,14 @@ use Rattle.tables.specs.Parts.{isFree, isUnused, exWeight, entryWeight}
 use Rattle.tables.specs.Look.{kindAt, holdingAt, cell, entry, message}
 use Rattle.rules.specs.Sound.{eachCell, eachEntry, eachMessage, workerIn, cellIn, entryIn, weightIn, kindInRange, holdingInRange, messageInRange, cellInRange, entryInRange, point1, sound}
 use Rattle.tables.specs.Parts.{messageWeight}
+
+-- two weights added, where neither passes the ceiling; and else the first
+unfoldable pub added : ℕ → ℕ → ℕ
+added a b = cond (ltb 1048576 a || ltb 1048576 b) a (a + b)
+
+pub added-is : (a b : ℕ) → a ≤ 1048576 → b ≤ 1048576 → added a b ≡ a + b
+unfolding added
+added-is a b p q = rw (le-ltb 1048576 a p, le-ltb 1048576 b q)
 
 -- what each element has, and the default too, every place has
 anywhere : {A : Type 0} (p : ℕ → A → Bool) (q : A → Bool) (l : List A) (d : A) → ((i : ℕ) (x : A) → p i x ≡ true → q x ≡ true) → q d ≡ true

@@ -1,7 +1,7 @@
 // What each call does where it is not refused: its answer and what it changes, from what is looked up; and the state then.
-ghost use Prim.Native.Nat.{_≤_, _+_};
+ghost use Prim.Native.Nat.{_≤_};
 ghost use mathlib.Core.Path.{_≡_};
-ghost use Rattle.tables.specs.declared.Change.the-variants.{Nothing, OfCell, OfSlot, OfCellAndSlot, OfEntryAndSlot};
+ghost use Rattle.tables.specs.declared.Change.the-variants.{Nothing, OfCell, OfCellAndSlot, OfEntryAndSlot};
 ghost use Rattle.tables.specs.Machine.{Tables, eight, tables, state};
 ghost use Rattle.tables.specs.Parts.{entryWeight};
 ghost use Rattle.tables.specs.Look.{changed};
@@ -9,9 +9,7 @@ ghost use Rattle.rules.specs.Answers.{made, reply};
 ghost use Rattle.rules.specs.Refusals.{entryToUse, used};
 ghost use Rattle.rules.specs.Calls.{allFree, gains, keeps, sends, sendsWhole, releases, costs, B};
 ghost use Rattle.rules.specs.Calls.{byLocation, byReference, exportEnd, transferred, dropped, readEx, readAt, askEx, askAt};
-
-pub mod deliveries;
-
+ghost use Rattle.changes.specs.BelowCeiling.{added};
 use tables::ALL_CELLS;
 use tables::ALL_ENTRIES;
 use tables::ALL_SLOTS;
@@ -54,8 +52,8 @@ pub fn all_free(p: u8) -> State
 }
 
 // The sum of two weights. In a sound state no weight passes the ceiling; where one does, the answer is not used.
-fn add_weights(a: u32, b: u32) -> u32
-    ensures { λ r. ⌜ (a ≤ 1048576 → b ≤ 1048576 → r ≡ a + b) ⌝ }
+pub fn add_weights(a: u32, b: u32) -> u32
+    ensures { λ r. ⌜ r ≡ added a b ⌝ }
 {
     if CEILING < a {
         return a;
@@ -93,22 +91,15 @@ pub fn with_cell(outcome: Outcome, w: u8, c: u8, k: Kind) -> Effect
     }
 }
 
-// This outcome, and the message m in the slot.
-fn with_message(outcome: Outcome, slot: u8, m: Message) -> Effect
-    ensures { λ r. ⌜ r ≡ record { outcome = outcome; change = OfSlot slot m } ⌝ }
-{
-    let change = Change::OfSlot {
-        slot: slot,
-        message: m,
-    };
-    Effect {
-        outcome: outcome,
-        change: change,
-    }
-}
-
-// The same, and k in the cell c of worker w.
-fn with_cell_and_message(outcome: Outcome, w: u8, c: u8, k: Kind, slot: u8, m: Message) -> Effect
+// This outcome, k in the cell c of worker w, and the message m in the slot.
+pub fn with_cell_and_message(
+    outcome: Outcome,
+    w: u8,
+    c: u8,
+    k: Kind,
+    slot: u8,
+    m: Message,
+) -> Effect
     ensures { λ r. ⌜ r ≡ record { outcome = outcome; change = OfCellAndSlot w c k slot m } ⌝ }
 {
     let change = Change::OfCellAndSlot {
@@ -124,8 +115,8 @@ fn with_cell_and_message(outcome: Outcome, w: u8, c: u8, k: Kind, slot: u8, m: M
     }
 }
 
-// The same, and x in the entry e of worker w.
-fn with_entry_and_message(
+// This outcome, x in the entry e of worker w, and the message m in the slot.
+pub fn with_entry_and_message(
     outcome: Outcome,
     w: u8,
     e: u8,

@@ -1,8 +1,11 @@
--- A reader that stands in a local: what its function has of it is what `read` asks, and what `read` gives is the reader at the next place, with what it found. For the walk of a function that keeps one reader.
+-- A reader that stands in a local: what its function has of it is what `read` asks, and what `read` gives is the reader at the next place, with what
+-- it found. For the walk of a function that keeps one reader.
 --     D, L, R, typed   a reader's type and its laws, and that its machine value has the type of a local
 --     Cell n, Own n    the local that holds the reader at the place n, and what that reader owns
---     goes-read        Cell n ∗ Own n ∗ [κ]_q  ⊢ ⇛ ∃ ν γ. what `read` asks ∗ Kept ν γ        κ is the text's lifetime, and Kept what is kept while the reader is lent for ν ∷ κ under the name γ (`Lent.antt`)
---     from-read        what `read` gives, at the machine value u ∗ Kept ν γ  ⊢ ⇛ ∃ f. f is what stands at n, and: own f u ∗ Cell (next n) ∗ Own (next n) ∗ [κ]_q
+--     goes-read        Cell n ∗ Own n ∗ [κ]_q  ⊢ ⇛ ∃ ν γ. what `read` asks ∗ Kept ν γ
+--                      κ is the text's lifetime, and Kept what is kept while the reader is lent for ν ∷ κ under the name γ (`Lent.antt`)
+--     from-read        what `read` gives, at the machine value u ∗ Kept ν γ  ⊢ ⇛ ∃ f. f is what stands at n, and:
+--                      own f u ∗ Cell (next n) ∗ Own (next n) ∗ [κ]_q
 -- Both are steps of the calculus, as `Lent.antt`'s are. Assumes `Given`.
 use mathlib.Core.Path.{_≡_, refl}
 use Prim.Native.Nat.{ℕ}

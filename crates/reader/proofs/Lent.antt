@@ -1,4 +1,5 @@
--- What lies in memory, lent as a `&mut` for a lifetime of a call that is within κ, and back: `Denote/Lend.antt`'s `lends-ref` and `ref-back`, at the meet ν ∷ κ of a new lifetime and κ. Half of κ's token goes into the meet's. It says nothing of the crate.
+-- What lies in memory, lent as a `&mut` for a lifetime of a call that is within κ, and back: `Denote/Lend.antt`'s `lends-ref` and `ref-back`, at the
+-- meet ν ∷ κ of a new lifetime and κ. Half of κ's token goes into the meet's. It says nothing of the crate.
 --     Ref ν γ h    the `&mut T` at (b, o) for ν ∷ κ, under the name γ, at the value h
 --     Kept ν γ     what the lender keeps meanwhile: its part, and the way back to the whole token of ν
 --     lends        h at (b, o) ∗ [κ]_q  ⊢ ⇛ ∃ ν γ. [ν ∷ κ]_right ∗ [κ]_left ∗ own (Ref ν γ h) ∗ Kept ν γ

@@ -1,6 +1,8 @@
--- A `&κ mut [T]` that is lent again for a lifetime κ′ of a call, and comes back: `Denote/Lend.antt`'s `lends-again` and `comes-back`, of a slice. It says nothing of the crate.
+-- A `&κ mut [T]` that is lent again for a lifetime κ′ of a call, and comes back: `Denote/Lend.antt`'s `lends-again` and `comes-back`, of a slice. It
+-- says nothing of the crate.
 --     SliceAt          what the `&κ mut [T]` at (b, o) owns, under the name γ, at the list ys, where its machine value says m elements
---     LentAgain        what the holder keeps while the slice is lent again under the name γ₁: the lender's part at κ′, and its own borrow at κ, open, with both halves of its ghost variable
+--     LentAgain        what the holder keeps while the slice is lent again under the name γ₁: the lender's part at κ′, and its own borrow at κ,
+--                      open, with both halves of its ghost variable
 --     lends-again      given that ys has m elements:  SliceAt κ γ ys ∗ [κ]_q  ⊢ ⇛ ∃ γ₁. SliceAt κ′ γ₁ ys ∗ LentAgain γ₁
 --     comes-back       given `Room` too, and that zs is as long as ys:  [†κ′] ∗ LentAgain γ₁ ∗ finally γ₁ zs  ⊢ ⇛ (SliceAt κ γ zs ∗ [κ]_q)
 -- Both are steps of the calculus: what is on the left stands at the head of the context, and the walk goes on with what is on the right. Assumes `Given`.

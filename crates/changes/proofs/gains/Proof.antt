@@ -1,6 +1,7 @@
 -- `changes::gains` meets its contract, by cases; the sum is of weights that do not pass the ceiling. Assumes nothing.
 use native.Mathlib.Omega.{arith}
 use borrow.Author.Needs.{needs}
+use Rattle.changes.specs.BelowCeiling.{added-is}
 use Rattle.changes.proofs.gains.Statement.{statement}
 use Rattle.changes.proofs.gains.Tie as tie
 
@@ -11,4 +12,4 @@ gains-spec =
     (λ c h. rw (c .enum-told .given .1))
     (λ c h.
     let is = c .before .before .x .given .1 in
-    rw (c .add-weights .ensures (rw is at h) (omega arith), is)))
+    rw (c .add-weights .ensures, added-is _ 1024 (rw is at h) (omega arith), is)))

@@ -1,7 +1,10 @@
--- `text::run_lines` meets its contract: a walk of its MIR, by hand. One `Reader` is made, stands in a local through the loop, and is lent to each read for the time of the call; out is lent again to each answer, and comes back.
--- All that the proof knows of the functions that it calls is that each meets its contract. What holds at each turn is `Laws.antt`'s `Running`, at the reader's place. Each turn that does not return moves the place on.
+-- `text::run_lines` meets its contract: a walk of its MIR, by hand. One `Reader` is made, stands in a local through the loop, and is lent to each
+-- read for the time of the call; out is lent again to each answer, and comes back.
+-- All that the proof knows of the functions that it calls is that each meets its contract. What holds at each turn is `Laws.antt`'s `Running`, at
+-- the reader's place. Each turn that does not return moves the place on.
 --     Turn, Nearer                 where a turn starts, and the order of the turns
---     goes-answer, from-answer     what the loop has of the state and of out is what `answer` asks, and what `answer` gives is the next state, and out with the line (of `read`, reader's `Held.antt` says the same)
+--     goes-answer, from-answer     what the loop has of the state and of out is what `answer` asks, and what `answer` gives is the next state, and
+--                                  out with the line (of `read`, reader's `Held.antt` says the same)
 --     ends, goes-on, turns         the arm that returns, the arm that answers, and the whole turn.        walk     the MIR, up to the loop
 -- Assumes nothing.
 use mathlib.Core.Path.{_≡_, refl, sym, ap, subst}

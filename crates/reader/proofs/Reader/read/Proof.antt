@@ -1,5 +1,8 @@
--- `reader::Reader::read` meets its contract: a walk of its MIR, by hand. The borrow of the struct is opened, which gives its cell and what it owns; `read_at` is called on the slice and the number; the next place is stored in the cell; and the borrow is closed at the struct moved on. All that the proof knows of `read_at` is that it meets its contract.
--- The struct is Copy: what it owns is had twice, one copy stays for the close, and of the other what text owns goes to the callee, beside the token of its lifetime, which comes back.
+-- `reader::Reader::read` meets its contract: a walk of its MIR, by hand. The borrow of the struct is opened, which gives its cell and what it owns;
+-- `read_at` is called on the slice and the number; the next place is stored in the cell; and the borrow is closed at the struct moved on. All that
+-- the proof knows of `read_at` is that it meets its contract.
+-- The struct is Copy: what it owns is had twice, one copy stays for the close, and of the other what text owns goes to the callee, beside the token
+-- of its lifetime, which comes back.
 -- Assumes nothing.
 use mathlib.Core.Path.{_≡_, refl, subst, ap}
 use Prim.Native.Nat.{ℕ, _<_, _^_}
@@ -129,7 +132,8 @@ module _ {M : Type 1} (𝓤 : URA M) (H : Heap 𝓤) (A : Atoms 𝓤) (at-mem : 
         calls-at ! fm ReadAt known to (and-then ! (local ! 9 refl) (and-then ! (local ! 7 refl) (no-more !))) (λ u.
         returned W (λ (r : Passage). (‵ (flft κ′ q′) ⊛ ‵ ftrue) ⊛ ‵ (N.the-row .own r (u ∷ []))) (lasts work.ended (κ′, tt) vd)
         (λ r ws. r ≡ readAt (now (d .text)) (d .at)) tt (λ r ws e. move ! (1 ∷ []) $ drop ! $ split ! $ move ! (1 ∷ []) $ seen ! N.the-row r (u ∷ []) (λ is.
-        -- [what the callee returned owns; 'a's token; what the struct owns; its cell; the open borrow; obs; auth; …; _4; …; _3; …; room for _2; …; _1; …; room for _0; …]
+        -- [what the callee returned owns; 'a's token; what the struct owns; its cell; the open borrow; obs; auth; …; _4; …; _3; …; room for _2; …;
+        -- _1; …; room for _0; …]
         land ! (from ! (stop !)) (init ! 12 refl (LL.lawful N.the-type N.Laws.the-laws 𝓤 H A W .typed r _ is .0)) $
         rewrite ! 12 (λ (z : Val). ‵ (fat fullShare N.Laws.mir l₂ 0 z)) (ap only (N.Laws.lowers .val-is r _ is)) refl $
         assigns ! (of-opd ! (load ! (from ! (fld ! refl (stop !))) (look-in ! 12 (sub ! 1 refl (whole !)))))

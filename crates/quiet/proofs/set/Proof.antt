@@ -1,0 +1,21 @@
+-- `set` meets its contract: its refusals in order, and what it does. Assumes nothing.
+use mathlib.Core.Path.{refl}
+use Rattle.tables.specs.Machine.{eight, tables}
+use Rattle.rules.specs.Calls.{set}
+use Rattle.quiet.specs.Verdicts.{along, decides}
+use Rattle.quiet.proofs.set.Statement.{statement}
+use Rattle.quiet.proofs.set.Tie as tie
+
+pub set-spec : {M : Type 1} → statement M
+unfolding along set
+set-spec =
+    let returns : tie.Need-returns = λ c.
+    let d = c .before .before .before .before in
+    let e = d .before .before .before .before in
+    let t = tables (e .before .args .s) in
+    rw (c .replied .ensures, c .before .answer .ensures)
+    (decides eight t _ _ _ _
+    (rw (c .before .before .before .refuse-if .ensures, d .is-var .ensures, d .before .cell-refusals .ensures)
+    (rw (d .before .before .is-sound .ensures, d .before .before .before .cell-at .ensures t refl)))
+    (λ h. c .before .before .with-cell .ensures)) in
+    tie.close (search tie.spec)
