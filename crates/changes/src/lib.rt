@@ -1,4 +1,4 @@
-// What each call does where it is not refused: its answer and what it changes, from what is looked up; and the state then.
+// What each call but deliver does where it is not refused: its answer and what it changes, from what is looked up; and the state after any call.
 ghost use Prim.Native.Nat.{_≤_};
 ghost use mathlib.Core.Path.{_≡_};
 ghost use Rattle.tables.specs.declared.Change.the-variants.{Nothing, OfCell, OfCellAndSlot, OfEntryAndSlot};
