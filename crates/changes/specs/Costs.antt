@@ -6,7 +6,7 @@ use Rattle.numbers.specs.Below.{sumBelow}
 use Rattle.numbers.specs.BelowLaws.{sum-mono}
 use Rattle.tables.specs.declared.Message.{Message}
 use Rattle.tables.specs.declared.Message.the-variants.{Empty, Reference, Release, Read, Answer, Ask, Supply}
-use Rattle.lookups.specs.Laws.{sum-same}
+use Rattle.searches.specs.Laws.{sum-same}
 use Rattle.rules.specs.Calls.{costs}
 
 module _ (E : ℕ) (few : E ≤ 255) where

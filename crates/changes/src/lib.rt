@@ -183,11 +183,11 @@ pub fn replied(s: State, d: Effect) -> Reply
 fn entry_to_use(entries: EntryTable, w: u8, c: u8) -> u8
     ensures { λ r. ⌜ ((t : Tables) → t .entries ≡ entries → r ≡ entryToUse eight t w c) ⌝ }
 {
-    let own = lookups::entry_of(entries, w, c);
+    let own = searches::entry_of(entries, w, c);
     if own < ENTRIES {
         return own;
     }
-    lookups::lowest_free_entry(entries, w)
+    searches::lowest_free_entry(entries, w)
 }
 
 // That entry.
@@ -476,7 +476,7 @@ fn costs(live: u8, m: Message) -> u32
 pub fn all_costs(entries: EntryTable, slots: SlotTable) -> u32
     ensures { λ r. ⌜ ((t : Tables) → t .entries ≡ entries → t .slots ≡ slots → r ≡ B eight t) ⌝ }
 {
-    let live = lookups::live_entries(entries);
+    let live = searches::live_entries(entries);
     let mut n: u32 = 0;
     for k in 0..ALL_SLOTS {
         let x = slots[k];

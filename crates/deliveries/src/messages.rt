@@ -239,11 +239,11 @@ fn read_on(r: u8, c: u8, m: Message, k: Kind) -> Message
 fn arrival_cell(cells: CellTable, w: u8, o: u8, e: u8) -> u8
     ensures { λ r. ⌜ ((t : Tables) → t .cells ≡ cells → r ≡ arrivalCell eight t w o e) ⌝ }
 {
-    let x = lookups::ex_naming(cells, w, o, e);
+    let x = searches::ex_naming(cells, w, o, e);
     if x < CELLS {
         return x;
     }
-    lookups::lowest_free_cell(cells, w)
+    searches::lowest_free_cell(cells, w)
 }
 
 // A Reference at the owner.

@@ -1,3 +1,3 @@
--- What a search is for, and what the loops over the tables say of a worker's cells and entries.
-pub mod Sought
-pub mod Laws
+-- A cell with its end, and what stands past the last slot.
+pub mod Seen
+pub mod Past

@@ -15,7 +15,7 @@ use Rattle.tables.specs.Machine.{Machine, Tables}
 use Rattle.tables.specs.Parts.{onEx, isFree, isVar, isVal, isEx, exNames, namedBy, endFrom, isUnused, isLive, isTainted, entryNames, cellOf}
 use Rattle.tables.specs.Look.{kindAt, holdingAt, cell, entry, end, endKind, safe}
 use Rattle.tables.specs.Laws.{entry-in}
-use Rattle.lookups.specs.Laws.{cells-count}
+use Rattle.searches.specs.Laws.{cells-count}
 use Rattle.rules.specs.Sound.{exesNaming, cellNames, entriesNaming, entryNamesCell}
 use Rattle.places.specs.Places.{namesPlace, entryThere}
 

@@ -38,9 +38,9 @@ pub fn new(s: State, w: u8) -> Reply
 {
     let cells = s.cells;
     let slots = s.slots;
-    let full = lookups::free_cells(cells, w) <= lookups::booked(slots, w);
+    let full = searches::free_cells(cells, w) <= searches::booked(slots, w);
     let v = worker_refusals(sound::is_sound(s), s.p, w).refuse_if(full, Refusal::NoRoom);
-    let c = lookups::lowest_free_cell(cells, w);
+    let c = searches::lowest_free_cell(cells, w);
     let done = changes::with_cell(Outcome::Done(c as u32), w, c, Kind::Var);
     changes::replied(s, v.answer(done))
 }
@@ -68,7 +68,7 @@ pub fn bind(s: State, w: u8, c: u8, x: u8) -> Reply
     let k = lookups::cell_at(cells, w, c);
     let other = lookups::see(cells, w, x);
     let ex = other.ending;
-    let exported = lookups::is_exported(entries, w, c);
+    let exported = searches::is_exported(entries, w, c);
     let safe = lookups::is_safe(entries, w, ex);
     let v = bind_refusals(sound::is_sound(s), s.p, w, k, other, exported, safe);
     let done = changes::with_cell(Outcome::Done(0), w, c, Kind::Ref(other.end));

@@ -29,7 +29,7 @@ pub fn export(s: State, w: u8, c: u8, to: u8) -> Reply
     let x = look.end;
     let end = look.ending;
     let u = changes::use_entry(entries, w, x);
-    let room = lookups::room_at(cells, slots, to);
+    let room = searches::room_at(cells, slots, to);
     let first = send_refusals(sound::is_sound(s), s.p, w, to, k);
     let v = end_refusals(first, end, u, room);
     let done = changes::export_end(w, x, to, end, u, room.slot);
@@ -48,7 +48,7 @@ pub fn indirect(s: State, w: u8, c: u8, to: u8) -> Reply
     let x = look.end;
     let end = look.ending;
     let u = changes::use_entry(entries, w, x);
-    let room = lookups::room_at(cells, slots, to);
+    let room = searches::room_at(cells, slots, to);
     let first = send_refusals(sound::is_sound(s), s.p, w, to, k).refuse_if(
         !parts::is_ex(end),
         Refusal::WrongKind,
@@ -67,8 +67,8 @@ pub fn transfer(s: State, w: u8, c: u8, to: u8) -> Reply
     let entries = s.entries;
     let slots = s.slots;
     let k = lookups::cell_at(cells, w, c);
-    let busy = lookups::is_busy(cells, entries, w, c, k);
-    let room = lookups::room_at(cells, slots, to);
+    let busy = searches::is_busy(cells, entries, w, c, k);
+    let room = searches::room_at(cells, slots, to);
     let first = send_refusals(sound::is_sound(s), s.p, w, to, k)
         .refuse_if(!parts::is_ex(k), Refusal::WrongKind)
         .refuse_if(busy, Refusal::Busy);
@@ -85,8 +85,8 @@ pub fn drop(s: State, w: u8, c: u8) -> Reply
     let entries = s.entries;
     let slots = s.slots;
     let k = lookups::cell_at(cells, w, c);
-    let busy = lookups::is_busy(cells, entries, w, c, k);
-    let slot = lookups::lowest_empty_slot(slots);
+    let busy = searches::is_busy(cells, entries, w, c, k);
+    let slot = searches::lowest_empty_slot(slots);
     let ex = parts::is_ex(k);
     let first = cell_refusals(sound::is_sound(s), s.p, w, k).refuse_if(busy, Refusal::Busy);
     let v = slot_refusal(first, ex, slot);
@@ -103,7 +103,7 @@ pub fn read(s: State, w: u8, c: u8) -> Reply
     let look = lookups::see(cells, w, c);
     let k = look.kind;
     let end = look.ending;
-    let slot = lookups::lowest_empty_slot(slots);
+    let slot = searches::lowest_empty_slot(slots);
     let first = cell_refusals(sound::is_sound(s), s.p, w, k);
     let v = slot_refusal(first, read_sends(end), slot);
     let done = changes::read_at(w, look.end, end, slot);
@@ -119,7 +119,7 @@ pub fn ask(s: State, w: u8, c: u8) -> Reply
     let look = lookups::see(cells, w, c);
     let k = look.kind;
     let end = look.ending;
-    let slot = lookups::lowest_empty_slot(slots);
+    let slot = searches::lowest_empty_slot(slots);
     let first = cell_refusals(sound::is_sound(s), s.p, w, k).refuse_if(
         !parts::is_ex(end),
         Refusal::WrongKind,

@@ -17,7 +17,7 @@ use Rattle.tables.specs.declared.Place.the-variants.{Nowhere, At}
 use Rattle.tables.specs.Machine.{Machine, Tables}
 use Rattle.tables.specs.Parts.{isReading, isAsking, exNames, namedBy, isAt, isLive, isEmpty}
 use Rattle.tables.specs.Look.{messageAt, cell}
-use Rattle.lookups.specs.Laws.{count-total}
+use Rattle.searches.specs.Laws.{count-total}
 use Rattle.rules.specs.Sound.{readsFor, asksFor, readsOf, asksOf, cellAwaited, messageHasIts}
 use Rattle.places.specs.Places.{waiterOf, cellFor, entryThere}
 use Rattle.chains.specs.declared.Hop.{Hop}

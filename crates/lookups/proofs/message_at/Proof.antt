@@ -3,7 +3,7 @@ use native.Mathlib.Omega.{arith}
 use mathlib.Core.Path.{_≡_}
 use borrow.Author.Needs.{needs}
 use lib.ListN.{length}
-use Rattle.lookups.specs.Laws.{message-past}
+use Rattle.lookups.specs.Past.{message-past}
 use Rattle.lookups.proofs.message_at.Statement.{statement}
 use Rattle.lookups.proofs.message_at.Tie as tie
 

@@ -5,7 +5,7 @@ use borrow.Author.Needs.{needs}
 use lib.ListN.{length, length-map}
 use Rattle.tables.specs.Machine.{tables, state}
 use Rattle.tables.specs.Look.{putMessage}
-use Rattle.lookups.specs.Laws.{put-message-past}
+use Rattle.lookups.specs.Past.{put-message-past}
 use Rattle.lookups.proofs.put_message.Statement.{statement}
 use Rattle.lookups.proofs.put_message.Tie as tie
 

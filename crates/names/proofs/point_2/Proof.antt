@@ -7,7 +7,7 @@ use lib.ListN.{length, length-map}
 use Rattle.loops.specs.Searching.{Counting, count-start, count-step, count-end}
 use Rattle.tables.specs.Machine.{eight, tables}
 use Rattle.tables.specs.Look.{kindAt}
-use Rattle.lookups.specs.Laws.{bit-small}
+use Rattle.searches.specs.Laws.{bit-small}
 use Rattle.rules.specs.Sound.{cellNames, point2}
 use Rattle.loops.specs.Passing.{Passing, pass-start, pass-over, pass-step, pass-each}
 use Rattle.places.specs.Places.{namesPlace, cell-read, entry-read}

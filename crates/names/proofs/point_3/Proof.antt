@@ -8,7 +8,7 @@ use Rattle.loops.specs.Searching.{Counting, count-start, count-step, count-end}
 use Rattle.tables.specs.Machine.{eight, tables}
 use Rattle.tables.specs.Parts.{entryNames}
 use Rattle.tables.specs.Look.{holdingAt}
-use Rattle.lookups.specs.Laws.{bit-small}
+use Rattle.searches.specs.Laws.{bit-small}
 use Rattle.rules.specs.Sound.{entryNamesCell, point3}
 use Rattle.loops.specs.Passing.{Passing, pass-start, pass-over, pass-step, pass-each}
 use Rattle.places.specs.Places.{cell-read, entry-read}

@@ -9,7 +9,7 @@ use Rattle.loops.specs.Searching.{Counting, count-start, count-step, count-end}
 use Rattle.tables.specs.Machine.{eight, tables}
 use Rattle.tables.specs.Parts.{isFree, goesTo}
 use Rattle.tables.specs.Look.{cell, messageAt, booked, freeCells}
-use Rattle.lookups.specs.Laws.{bit-small, count-total}
+use Rattle.searches.specs.Laws.{bit-small, count-total}
 use Rattle.rules.specs.Sound.{roomForBooked, point6}
 use Rattle.loops.specs.Passing.{Passing, pass-start, pass-step, pass-end}
 use Rattle.places.specs.Places.{cell-read}
