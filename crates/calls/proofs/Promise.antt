@@ -21,11 +21,11 @@ use Rattle.tables.specs.Machine.{Tables, eight, tables, state}
 use Rattle.tables.specs.Parts.{exNames, isLive, entryWeight}
 use Rattle.tables.specs.Look.{cell, entry, message}
 use Rattle.rules.specs.Answers.{made, reply, succeeds, valueOf, checked}
-use Rattle.rules.specs.Sound.{held, sound}
-use Rattle.rules.specs.Chains.{EndsIn}
+use Rattle.states.specs.Sound.{held, sound}
+use Rattle.states.specs.Chains.{EndsIn}
 use Rattle.rules.specs.Calls.{bound, B}
 use Rattle.rules.specs.Deliver.{deliver}
-use Rattle.rules.specs.Machines.{Sized}
+use Rattle.states.specs.Machines.{Sized}
 use Rattle.rules.specs.Step.{isStart, step, drained, successes, Reached, begun, after}
 use Rattle.rules.specs.Statements.{messageNames, ComesToAnEnd, holdsReady, AtRest, readOfUnbound, KnownWith, KeepsNaming, KeepsContext}
 use Rattle.rules.proofs.Eight.{demand-3-of-eight, calls-keep-sound-of-eight}

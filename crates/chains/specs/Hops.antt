@@ -22,8 +22,8 @@ use Rattle.tables.specs.Machine.{Machine, Tables}
 use Rattle.tables.specs.Parts.{namedBy, endFrom, isAt, isUnused, cellOf}
 use Rattle.tables.specs.Look.{holdingAt, cell, entry, end, endKind}
 use Rattle.tables.specs.Laws.{entry-in}
-use Rattle.rules.specs.Chains.{through, follow}
-use Rattle.rules.specs.Sound.{reached}
+use Rattle.states.specs.Chains.{through, follow}
+use Rattle.states.specs.Sound.{reached}
 use Rattle.loops.specs.Walking.{walk-cong}
 use Rattle.places.specs.Places.{placeIndex}
 use Rattle.chains.specs.declared.Hop.{Hop}

@@ -20,7 +20,7 @@ use Rattle.tables.specs.declared.Message.the-variants.{Empty, Reference, Releas
 use Rattle.tables.specs.Machine.{Machine, Tables}
 use Rattle.tables.specs.Parts.{isFree, isUnused, exWeight, entryWeight}
 use Rattle.tables.specs.Look.{kindAt, holdingAt, cell, entry, message}
-use Rattle.rules.specs.Sound.{eachCell, eachEntry, eachMessage, workerIn, cellIn, entryIn, weightIn, kindInRange, holdingInRange, messageInRange, cellInRange, entryInRange, point1, sound}
+use Rattle.states.specs.Sound.{eachCell, eachEntry, eachMessage, workerIn, cellIn, entryIn, weightIn, kindInRange, holdingInRange, messageInRange, cellInRange, entryInRange, point1, sound}
 use Rattle.tables.specs.Parts.{messageWeight}
 
 -- two weights added, where neither passes the ceiling; and else the first

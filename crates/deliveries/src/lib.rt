@@ -5,7 +5,7 @@ ghost use mathlib.Core.Bool.{true};
 ghost use Rattle.tables.specs.Machine.{Tables, eight, tables};
 ghost use Rattle.tables.specs.Parts.{messageWeight};
 ghost use Rattle.rules.specs.Answers.{made, reply};
-ghost use Rattle.rules.specs.Sound.{sound};
+ghost use Rattle.states.specs.Sound.{sound};
 ghost use Rattle.rules.specs.Refusals.{readEnd, readyAt};
 ghost use Rattle.rules.specs.Deliver.{deliverMessage, deliver};
 

@@ -16,7 +16,7 @@ use Rattle.tables.specs.Parts.{onEx, isFree, isVar, isVal, isEx, exNames, named
 use Rattle.tables.specs.Look.{kindAt, holdingAt, cell, entry, end, endKind, safe}
 use Rattle.tables.specs.Laws.{entry-in}
 use Rattle.searches.specs.Laws.{cells-count}
-use Rattle.rules.specs.Sound.{exesNaming, cellNames, entriesNaming, entryNamesCell}
+use Rattle.states.specs.Sound.{exesNaming, cellNames, entriesNaming, entryNamesCell}
 use Rattle.places.specs.Places.{namesPlace, entryThere}
 
 -- a cell names what it may: `there` is what a REF names, x what an EX names, and so many EX name that entry

@@ -1,7 +1,7 @@
 // Points 2 and 3 of a sound state: what REF, EX and live entries name.
 ghost use mathlib.Core.Path.{_≡_};
 ghost use Rattle.tables.specs.Machine.{eight, tables};
-ghost use Rattle.rules.specs.Sound.{point2, point3};
+ghost use Rattle.states.specs.Sound.{point2, point3};
 ghost use Rattle.names.specs.Names.{cellNamesSeen, namesNothing, safeSeen, entryNamesSeen};
 use numbers::bit_of;
 use numbers::both;

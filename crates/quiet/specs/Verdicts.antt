@@ -7,7 +7,7 @@ use Rattle.tables.specs.declared.Outcome.the-variants.{Refused}
 use Rattle.tables.specs.declared.Effect.{Effect}
 use Rattle.tables.specs.Machine.{Machine, Tables}
 use Rattle.rules.specs.Answers.{answered, made, reply, Check, _when_, refuse, checked}
-use Rattle.rules.specs.Sound.{sound}
+use Rattle.states.specs.Sound.{sound}
 use Rattle.rules.specs.Refusals.{notSound}
 use Rattle.quiet.specs.declared.verdict.Verdict.{Verdict}
 use Rattle.quiet.specs.declared.verdict.Verdict.the-variants.{Go, Stop}

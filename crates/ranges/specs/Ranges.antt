@@ -9,7 +9,7 @@ use Rattle.tables.specs.declared.Holding.{Holding}
 use Rattle.tables.specs.declared.Holding.the-variants.{Unused, Live}
 use Rattle.tables.specs.Machine.{Machine, Tables}
 use Rattle.tables.specs.Parts.{isFree, isUnused}
-use Rattle.rules.specs.Sound.{workerIn, kindInRange, holdingInRange, cellInRange, entryInRange}
+use Rattle.states.specs.Sound.{workerIn, kindInRange, holdingInRange, cellInRange, entryInRange}
 
 -- a is that the worker is below P
 free-part : (a : Bool) → ((a || true) && true) ≡ true

@@ -1,8 +1,8 @@
 // Point 1 of a sound state: every number is in its range, and everything of workers P and up is free.
 ghost use mathlib.Core.Path.{_≡_};
 ghost use Rattle.tables.specs.Machine.{Tables, eight, tables};
-ghost use Rattle.rules.specs.Sound.{point1, eachCell, eachEntry, eachMessage};
-ghost use Rattle.rules.specs.Sound.{kindInRange, holdingInRange, messageInRange, cellInRange, entryInRange};
+ghost use Rattle.states.specs.Sound.{point1, eachCell, eachEntry, eachMessage};
+ghost use Rattle.states.specs.Sound.{kindInRange, holdingInRange, messageInRange, cellInRange, entryInRange};
 use numbers::both;
 use tables::ALL_CELLS;
 use tables::ALL_ENTRIES;

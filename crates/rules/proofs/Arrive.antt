@@ -25,27 +25,27 @@ use Rattle.tables.specs.Machine.{Machine, Tables}
 use Rattle.tables.specs.Parts.{isFree, isVar, isVal, exNames, namedBy, isLive, isTainted, entryNames, entryWeight, isEmpty, goesTo, cellOf, readingOf}
 use Rattle.tables.specs.Look.{cell, entry, end, endKind, exNaming, lowestFreeCell, booked, message, putCell, putEntry, putMessage, changed}
 use Rattle.rules.specs.Answers.{made}
-use Rattle.rules.specs.Chains.{entryEnd, follow, ahead, EndsIn}
-use Rattle.rules.specs.Sound.{readsFor, asksFor, messageHolds, held}
+use Rattle.states.specs.Chains.{entryEnd, follow, ahead, EndsIn}
+use Rattle.states.specs.Sound.{readsFor, asksFor, messageHolds, held}
 use Rattle.rules.specs.Refusals.{ready, deliverRefusals}
 use Rattle.rules.specs.Deliver.{takenOff, joined, known, supplied, readOn, arrivalCell, deliverHome, deliverAway, deliverRelease, deliverRead, deliverAnswer, deliverSupply, deliverAsk, deliverMessage, deliver}
-use Rattle.rules.specs.Machines.{Laws}
-use Rattle.rules.specs.Facts.{EntryFact, MessageFact, Facts, ReadAhead, Reads, KnownFact, AnswerFact}
-use Rattle.rules.proofs.Inside.{cell-inside, entry-inside, message-total, message-beyond}
-use Rattle.rules.proofs.Named.{nowhere-at, the-live, ExOf, the-ex-of, eq-both, both-eq, on-ex}
-use Rattle.rules.proofs.Derived.{live-fact, held-live, message-held, names-live, reading-cell, asking-cell, LivePlace, named-place, read-live, message-fact}
-use Rattle.rules.specs.Move.{next, ReferenceGoes, Keeps, TrueValues, Makes, Placed, Move}
-use Rattle.rules.proofs.Next.{cell-stored}
-use Rattle.rules.proofs.Kept.{facts-kept}
-use Rattle.rules.proofs.Walks.{follow-live, ahead-add, ends-before}
-use Rattle.rules.proofs.Onward.{ahead-kept, ends-kept}
-use Rattle.rules.proofs.Count.{standing-some, standing-falls}
-use Rattle.rules.proofs.Ends.{EndIs, plain, leads, end-is}
+use Rattle.states.specs.Machines.{Laws}
+use Rattle.states.specs.Facts.{EntryFact, MessageFact, Facts, ReadAhead, Reads, KnownFact, AnswerFact}
+use Rattle.states.proofs.Inside.{cell-inside, entry-inside, message-total, message-beyond}
+use Rattle.states.proofs.Named.{nowhere-at, the-live, ExOf, the-ex-of, eq-both, both-eq, on-ex}
+use Rattle.states.proofs.Derived.{live-fact, held-live, message-held, names-live, reading-cell, asking-cell, LivePlace, named-place, read-live, message-fact}
+use Rattle.states.specs.Move.{next, ReferenceGoes, Keeps, TrueValues, Makes, Placed, Move}
+use Rattle.states.proofs.Next.{cell-stored}
+use Rattle.states.proofs.Kept.{facts-kept}
+use Rattle.states.proofs.Walks.{follow-live, ahead-add, ends-before}
+use Rattle.states.proofs.Onward.{ahead-kept, ends-kept}
+use Rattle.states.proofs.Count.{standing-some, standing-falls}
+use Rattle.states.proofs.Ends.{EndIs, plain, leads, end-is}
 use Rattle.rules.proofs.Measure.{spends, status-same, kind-same, ex-on, Delivers, delivers-makes, delivers-by}
-use Rattle.rules.proofs.Moves.{cellMove, entryMove, slotMove, entry-keeps, stores-cell-message, stores-ex, stores-entry, stores-slot, entry-placed}
+use Rattle.states.proofs.Moves.{cellMove, entryMove, slotMove, entry-keeps, stores-cell-message, stores-ex, stores-entry, stores-slot, entry-placed}
 use Rattle.rules.proofs.Steps.{makes-checked, not-false, cond-add, free-cell, free-not-busy, mark-cond}
 use Rattle.rules.proofs.Local.{weight-some}
-use Rattle.rules.proofs.Entries.{cells-same, entries-same, entry-next}
+use Rattle.states.proofs.Entries.{cells-same, entries-same, entry-next}
 
 module _ (𝓜 : Machine) (L : Laws 𝓜) (s : Tables) (F : Facts 𝓜 s) (reads : Reads 𝓜 s) where
   -- a slot that is not empty is one of the machine's

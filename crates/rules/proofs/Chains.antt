@@ -11,9 +11,9 @@ use Rattle.tables.specs.declared.Place.the-variants.{Nowhere, At}
 use Rattle.tables.specs.Machine.{Machine, Tables}
 use Rattle.tables.specs.Parts.{isVar, namedBy}
 use Rattle.tables.specs.Look.{entry}
-use Rattle.rules.specs.Chains.{entryEnd, follow, ahead, EndsIn}
-use Rattle.rules.proofs.Named.{nowhere-at}
-use Rattle.rules.proofs.Walks.{ahead-nowhere, ahead-add}
+use Rattle.states.specs.Chains.{entryEnd, follow, ahead, EndsIn}
+use Rattle.states.proofs.Named.{nowhere-at}
+use Rattle.states.proofs.Walks.{ahead-nowhere, ahead-add}
 use Rattle.rules.proofs.Steps.{var-is}
 
 module _ (𝓜 : Machine) (s : Tables) where

@@ -17,18 +17,18 @@ use Rattle.tables.specs.declared.Place.the-variants.{At}
 use Rattle.tables.specs.Machine.{Machine, Tables}
 use Rattle.tables.specs.Parts.{isFree, isVar, isVal, isEx, exNames, isLive, entryNames, cellOf}
 use Rattle.tables.specs.Look.{cell, entry, exported, message}
-use Rattle.rules.specs.Chains.{ahead, LeadsTo}
-use Rattle.rules.specs.Sound.{messageHolds}
-use Rattle.rules.specs.Facts.{MessageFact, Facts, Reads}
-use Rattle.rules.specs.Move.{Move, next, ReferenceGoes, Keeps, Makes, nothing, moved}
+use Rattle.states.specs.Chains.{ahead, LeadsTo}
+use Rattle.states.specs.Sound.{messageHolds}
+use Rattle.states.specs.Facts.{MessageFact, Facts, Reads}
+use Rattle.states.specs.Move.{Move, next, ReferenceGoes, Keeps, Makes, nothing, moved}
 use Rattle.rules.specs.Statements.{messageNames, Gone, home, away, KeepsNaming, Continues, as-it-was, given-a-value, bound-to, KeepsContext}
-use Rattle.rules.proofs.Named.{the-live, the-entry-of, names-live-entry, both-eq, eq-both}
-use Rattle.rules.proofs.Busy.{exported-by}
-use Rattle.rules.proofs.Derived.{live-fact, held-live, sent-held, names-live, LivePlace, live-place, ahead-place, read-live}
-use Rattle.rules.proofs.Kept.{VarAfter, var-or-val, ref-to-safe, var-after, live-kept, facts-kept, exported-same}
-use Rattle.rules.proofs.Stored.{stored-each}
-use Rattle.rules.proofs.Next.{cell-stored, slot-here, slot-other}
-use Rattle.rules.proofs.Onward.{ahead-kept}
+use Rattle.states.proofs.Named.{the-live, the-entry-of, names-live-entry, both-eq, eq-both}
+use Rattle.states.proofs.Busy.{exported-by}
+use Rattle.states.proofs.Derived.{live-fact, held-live, sent-held, names-live, LivePlace, live-place, ahead-place, read-live}
+use Rattle.states.proofs.Kept.{VarAfter, var-or-val, ref-to-safe, var-after, live-kept, facts-kept, exported-same}
+use Rattle.states.proofs.Stored.{stored-each}
+use Rattle.states.proofs.Next.{cell-stored, slot-here, slot-other}
+use Rattle.states.proofs.Onward.{ahead-kept}
 
 module _ (𝓜 : Machine) (s : Tables) (F : Facts 𝓜 s) where
   -- ---- the entry that a message names is live

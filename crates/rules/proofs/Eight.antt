@@ -1,7 +1,7 @@
 -- Demand 3 at document 01's sizes and weights, of document 01's rules: the conclusion to cite. Assumes nothing.
 use native.Mathlib.Omega.{arith}
 use Rattle.tables.specs.Machine.{eight}
-use Rattle.rules.specs.Machines.{Laws}
+use Rattle.states.specs.Machines.{Laws}
 use Rattle.rules.specs.Statements.{CallsKeepSound, Demand3}
 use Rattle.rules.proofs.Whole.{calls-keep-sound, demand-3}
 

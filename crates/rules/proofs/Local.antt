@@ -18,18 +18,18 @@ use Rattle.tables.specs.Machine.{Machine, Tables}
 use Rattle.tables.specs.Parts.{readingOf, isFree, isEx, isReading, isAsking, goesTo}
 use Rattle.tables.specs.Look.{cell, entry, end, endKind, safe, exported, busy, lowestFreeCell, lowestEmptySlot, booked, freeCells, message, putCell, putMessage, changed}
 use Rattle.rules.specs.Answers.{done, made}
-use Rattle.rules.specs.Sound.{readsFor, asksFor, cellHolds, messageHolds}
+use Rattle.states.specs.Sound.{readsFor, asksFor, cellHolds, messageHolds}
 use Rattle.rules.specs.Refusals.{newRefusals, setRefusals, bindRefusals, transferRefusals, dropRefusals}
 use Rattle.rules.specs.Calls.{transferred, dropped, new, set, bind, transfer, drop}
-use Rattle.rules.specs.Machines.{Laws}
-use Rattle.rules.specs.Facts.{CellFact, MessageFact, ReadAhead, AnswerFact, Facts, KnownFact}
-use Rattle.rules.proofs.Inside.{cell-inside}
-use Rattle.rules.proofs.Named.{the-ex, not-on-ex}
-use Rattle.rules.proofs.Busy.{idle-parts}
-use Rattle.rules.proofs.Derived.{cell-fact}
-use Rattle.rules.specs.Move.{next, VarBecomes, stays, bound, ReferenceGoes, Makes}
-use Rattle.rules.proofs.Next.{cell-stored}
-use Rattle.rules.proofs.Moves.{cellMove, CellMoves, cell-placed, stores-cell, stores-cell-message}
+use Rattle.states.specs.Machines.{Laws}
+use Rattle.states.specs.Facts.{CellFact, MessageFact, ReadAhead, AnswerFact, Facts, KnownFact}
+use Rattle.states.proofs.Inside.{cell-inside}
+use Rattle.states.proofs.Named.{the-ex, not-on-ex}
+use Rattle.states.proofs.Busy.{idle-parts}
+use Rattle.states.proofs.Derived.{cell-fact}
+use Rattle.states.specs.Move.{next, VarBecomes, stays, bound, ReferenceGoes, Makes}
+use Rattle.states.proofs.Next.{cell-stored}
+use Rattle.states.proofs.Moves.{cellMove, CellMoves, cell-placed, stores-cell, stores-cell-message}
 use Rattle.rules.proofs.Steps.{makes-checked, not-false, var-is, zero-cond, free-cell, empty-slot, has-room, room-sent, room-same, free-not-busy, makes-by, mark-cond}
 
 -- a message that carries the weight n of the entry e of worker o, and is no Read, Answer, Ask or Supply

@@ -21,17 +21,17 @@ use Rattle.tables.specs.Machine.{Machine, Tables}
 use Rattle.tables.specs.Parts.{isLive}
 use Rattle.tables.specs.Look.{cell, entry, liveEntries, message}
 use Rattle.rules.specs.Calls.{costs, B}
-use Rattle.rules.specs.Machines.{Laws}
-use Rattle.rules.specs.Chains.{EndsIn}
-use Rattle.rules.specs.Facts.{Facts}
-use Rattle.rules.proofs.Derived.{LivePlace}
-use Rattle.rules.specs.Move.{Move, next, Keeps, ReadsOn, TrueValues, Carries, Makes, moved, Ranked, Invariant}
-use Rattle.rules.proofs.Stored.{stored-each}
-use Rattle.rules.proofs.Next.{cell-stored, entry-stored, slots-total}
-use Rattle.rules.proofs.Onward.{ends-kept}
-use Rattle.rules.proofs.Stays.{invariant-kept, rank-kept}
-use Rattle.rules.proofs.Count.{standsAt, standing, standing-live, stands, bit-mono}
-use Rattle.rules.proofs.Moves.{Stores}
+use Rattle.states.specs.Machines.{Laws}
+use Rattle.states.specs.Chains.{EndsIn}
+use Rattle.states.specs.Facts.{Facts}
+use Rattle.states.proofs.Derived.{LivePlace}
+use Rattle.states.specs.Move.{Move, next, Keeps, ReadsOn, TrueValues, Carries, Makes, moved, Ranked, Invariant}
+use Rattle.states.proofs.Stored.{stored-each}
+use Rattle.states.proofs.Next.{cell-stored, entry-stored, slots-total}
+use Rattle.states.proofs.Onward.{ends-kept}
+use Rattle.states.proofs.Stays.{invariant-kept, rank-kept}
+use Rattle.states.proofs.Count.{standsAt, standing, standing-live, stands, bit-mono}
+use Rattle.states.proofs.Moves.{Stores}
 
 -- the rank at which a Read's entry stands
 abbrev pub rankOf : (ℕ → ℕ → ℕ) → Message → ℕ

@@ -17,7 +17,7 @@ use Rattle.tables.specs.Machine.{Machine, Tables}
 use Rattle.tables.specs.Parts.{isEx}
 use Rattle.tables.specs.Look.{cell, end, endKind, room}
 use Rattle.rules.specs.Answers.{Check, _when_, checked, numberOf, precedence}
-use Rattle.rules.specs.Sound.{sound}
+use Rattle.states.specs.Sound.{sound}
 use Rattle.rules.specs.Refusals.{sendLines, byReferenceLines, byLocationLines, used}
 use Rattle.rules.specs.Order.{inOrderFrom, inOrder, Applies, first, later, LowestGiven, refusalsOf}
 

@@ -22,24 +22,24 @@ use Rattle.tables.specs.Machine.{Machine, Tables}
 use Rattle.tables.specs.Parts.{isFree, isVar, isVal, isEx, isAsking, exNames, namedBy, exWeight, endFrom, isLive, isTainted, entryNames, entryWeight, cellOf, readingOf, goesTo}
 use Rattle.tables.specs.Look.{cell, entry, end, endKind, safe, entryOf, exported, lowestFreeEntry, lowestEmptySlot, booked, freeCells, room, putCell, putEntry, putMessage, changed}
 use Rattle.rules.specs.Answers.{Check, checked, made}
-use Rattle.rules.specs.Sound.{varValOrSafe, sound, readsFor, asksFor, messageHolds}
+use Rattle.states.specs.Sound.{varValOrSafe, sound, readsFor, asksFor, messageHolds}
 use Rattle.rules.specs.Refusals.{sendLines, byReferenceLines, byLocationLines, entryToUse, used, indirectRefusals, readSends, readRefusals, askRefusals}
 use Rattle.rules.specs.Calls.{gains, byLocation, byReference, readAt, askAt, export, indirect, read, ask}
-use Rattle.rules.specs.Machines.{Laws}
-use Rattle.rules.specs.Chains.{ahead}
-use Rattle.rules.specs.Facts.{Facts, MessageFact, ReadAhead, AnswerFact, KnownFact}
-use Rattle.rules.proofs.Inside.{cell-inside}
-use Rattle.rules.proofs.Named.{the-ex, the-entry-of, eq-both, named-ex}
-use Rattle.rules.proofs.Busy.{own-entry, not-exported}
-use Rattle.rules.proofs.Derived.{live-fact}
-use Rattle.rules.proofs.Kept.{var-val-end, end-self}
-use Rattle.rules.proofs.Ends.{EndIs, plain, leads, end-is}
-use Rattle.rules.specs.Move.{next, Makes, nothing}
-use Rattle.rules.proofs.Next.{cell-stored}
-use Rattle.rules.proofs.Moves.{cellMove, cell-placed, entry-placed, stores-ex, stores-entry}
+use Rattle.states.specs.Machines.{Laws}
+use Rattle.states.specs.Chains.{ahead}
+use Rattle.states.specs.Facts.{Facts, MessageFact, ReadAhead, AnswerFact, KnownFact}
+use Rattle.states.proofs.Inside.{cell-inside}
+use Rattle.states.proofs.Named.{the-ex, the-entry-of, eq-both, named-ex}
+use Rattle.states.proofs.Busy.{own-entry, not-exported}
+use Rattle.states.proofs.Derived.{live-fact}
+use Rattle.states.proofs.Kept.{var-val-end, end-self}
+use Rattle.states.proofs.Ends.{EndIs, plain, leads, end-is}
+use Rattle.states.specs.Move.{next, Makes, nothing}
+use Rattle.states.proofs.Next.{cell-stored}
+use Rattle.states.proofs.Moves.{cellMove, cell-placed, entry-placed, stores-ex, stores-entry}
 use Rattle.rules.proofs.Steps.{makes-checked, not-false, cond-add, free-entry, empty-slot, has-room, room-sent, makes-by, mark-cond}
 use Rattle.rules.proofs.Local.{worker-used, weight-some}
-use Rattle.rules.proofs.Entries.{entry-next}
+use Rattle.states.proofs.Entries.{entry-next}
 
 module _ (𝓜 : Machine) (L : Laws 𝓜) (s : Tables) (F : Facts 𝓜 s) where
   -- ---- by location: the cell x of worker w, whose end is itself; no refusal applies

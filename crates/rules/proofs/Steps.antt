@@ -21,13 +21,13 @@ use Rattle.tables.specs.Machine.{Machine, Tables}
 use Rattle.tables.specs.Parts.{isFree, isVar, isEx, isReading, isAsking, isUnused, isEmpty, goesTo}
 use Rattle.tables.specs.Look.{cell, entry, entryOf, exported, referred, busy, lowestFreeCell, lowestFreeEntry, lowestEmptySlot, booked, freeCells, message, changed}
 use Rattle.rules.specs.Answers.{Check, _when_, refuse, checked}
-use Rattle.rules.specs.Machines.{Laws}
-use Rattle.rules.specs.Facts.{Facts}
-use Rattle.rules.proofs.Named.{the-entry-of}
-use Rattle.rules.proofs.Busy.{own-entry, naming-ref, not-busy}
-use Rattle.rules.proofs.Derived.{bit-one, live-fact, cell-fact}
-use Rattle.rules.specs.Move.{ReadsOn, TrueValues, Carries, Makes, nothing, moved}
-use Rattle.rules.proofs.Moves.{Stores}
+use Rattle.states.specs.Machines.{Laws}
+use Rattle.states.specs.Facts.{Facts}
+use Rattle.states.proofs.Named.{the-entry-of}
+use Rattle.states.proofs.Busy.{own-entry, naming-ref, not-busy}
+use Rattle.states.proofs.Derived.{bit-one, live-fact, cell-fact}
+use Rattle.states.specs.Move.{ReadsOn, TrueValues, Carries, Makes, nothing, moved}
+use Rattle.states.proofs.Moves.{Stores}
 
 -- ---- refusals passed: none of the tests hit
 abbrev pub Passed : List Check → Type 0

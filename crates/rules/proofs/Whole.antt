@@ -28,24 +28,24 @@ use Rattle.tables.specs.Machine.{Machine, Tables}
 use Rattle.tables.specs.Parts.{isReading, namedBy, isLive, cellOf, entryWeight, isEmpty}
 use Rattle.tables.specs.Look.{cell, entry, message, changed}
 use Rattle.rules.specs.Answers.{answered, made, succeeds, checked}
-use Rattle.rules.specs.Sound.{readsFor, readsOf, held, sound}
-use Rattle.rules.specs.Chains.{ahead, EndsIn}
+use Rattle.states.specs.Sound.{readsFor, readsOf, held, sound}
+use Rattle.states.specs.Chains.{ahead, EndsIn}
 use Rattle.rules.specs.Refusals.{ready, boundRefusals}
 use Rattle.rules.specs.Calls.{start, bound, B}
 use Rattle.rules.specs.Deliver.{deliverHome, deliverAway, deliverRelease, deliverRead, deliverAnswer, deliverSupply, deliverAsk, deliverMessage, deliver}
 use Rattle.rules.specs.Step.{isStart, step, run, delivers, drained, successes, Reached, begun, after}
-use Rattle.rules.specs.Machines.{Laws}
-use Rattle.rules.specs.Facts.{EntryFact, Facts, ReadAhead, Reads, KnownFact}
-use Rattle.rules.proofs.Derived.{LivePlace, live-place, names-live, named-place, ahead-place}
-use Rattle.rules.proofs.Named.{both-eq}
-use Rattle.rules.proofs.FromTest.{sound-facts, sound-reads}
-use Rattle.rules.proofs.ToTest.{facts-sound}
-use Rattle.rules.specs.Move.{Makes, nothing, Ranked, Invariant}
+use Rattle.states.specs.Machines.{Laws}
+use Rattle.states.specs.Facts.{EntryFact, Facts, ReadAhead, Reads, KnownFact}
+use Rattle.states.proofs.Derived.{LivePlace, live-place, names-live, named-place, ahead-place}
+use Rattle.states.proofs.Named.{both-eq}
+use Rattle.states.proofs.FromTest.{sound-facts, sound-reads}
+use Rattle.states.proofs.ToTest.{facts-sound}
+use Rattle.states.specs.Move.{Makes, nothing, Ranked, Invariant}
 use Rattle.rules.specs.Statements.{noStart, CallsKeepSound, FreedAtNothing, NoLoops, AtMostB, holdsReady, AtRest, slotsTaken, TakesReady, RestIsReached, readOfUnbound, KnownWith, Brought, Demand3}
-use Rattle.rules.proofs.Count.{standing-live, comes-to-end}
+use Rattle.states.proofs.Count.{standing-live, comes-to-end}
 use Rattle.rules.proofs.Measure.{measure, measure-bound, StatusOn, KindOn, ExOn, Arrived, arrived}
-use Rattle.rules.proofs.Stays.{facts-made, invariant-made}
-use Rattle.rules.proofs.Ends.{own-context}
+use Rattle.states.proofs.Stays.{facts-made, invariant-made}
+use Rattle.states.proofs.Ends.{own-context}
 use Rattle.rules.proofs.Context.{message-live, context-made, naming-made}
 use Rattle.rules.proofs.Steps.{makes-checked, not-false}
 use Rattle.rules.proofs.Local.{new-makes, set-makes, bind-makes, transfer-makes, drop-makes}

@@ -19,8 +19,8 @@ use Rattle.tables.specs.Machine.{Tables, eight}
 use Rattle.tables.specs.Parts.{exWeight, isUnused, entryWeight, messageWeight}
 use Rattle.tables.specs.Look.{cell, entry, end, endKind, safe, entryOf, exported, referred, busy, lowestFreeCell, lowestFreeEntry, lowestEmptySlot, exNaming, freeCells, booked, liveEntries, message, putCell, putEntry, putMessage}
 use Rattle.rules.specs.Answers.{codeOf, valueOf, checked}
-use Rattle.rules.specs.Chains.{follow}
-use Rattle.rules.specs.Sound.{exesNaming, entriesNaming, readsOf, asksOf, reached, held, point1, point2, point3, point4, point5, point6, sound}
+use Rattle.states.specs.Chains.{follow}
+use Rattle.states.specs.Sound.{exesNaming, entriesNaming, readsOf, asksOf, reached, held, point1, point2, point3, point4, point5, point6, sound}
 use Rattle.rules.specs.Refusals.{entryToUse, ready}
 use Rattle.rules.specs.Calls.{allFree, closed, start, new, set, bind, export, indirect, transfer, drop, read, ask, B, bound}
 use Rattle.rules.specs.Deliver.{arrivalCell, deliverHome, deliverAway, deliverRelease, deliverRead, deliverAnswer, deliverSupply, deliverAsk, deliverMessage, deliver}

@@ -17,7 +17,7 @@ use Rattle.tables.specs.Machine.{Machine, Tables}
 use Rattle.tables.specs.Parts.{onVal, onEx, cellOf, entryWeight}
 use Rattle.tables.specs.Look.{cell, entry, exNaming, lowestFreeCell, message}
 use Rattle.rules.specs.Answers.{done, answered, checked}
-use Rattle.rules.specs.Chains.{entryEnd}
+use Rattle.states.specs.Chains.{entryEnd}
 use Rattle.rules.specs.Refusals.{deliverRefusals}
 
 -- "the weight is taken off the entry (freed at 0)"

@@ -1,8 +1,6 @@
--- Document 01 as definitions, in its words and its order: Answers to Step. Nothing else defines behaviour. Then what is shown of them: Order
--- and Cases for what is computed, Statements for demand 3. Machines, Facts and Move are what the proofs speak of.
+-- Document 01 as definitions, in its words and its order: Answers to Step, over the sound state of `states`. Nothing else defines behaviour. Then
+-- what is shown of them: Order and Cases for what is computed, Statements for demand 3.
 pub mod Answers
-pub mod Chains
-pub mod Sound
 pub mod Refusals
 pub mod Calls
 pub mod Deliver
@@ -10,6 +8,3 @@ pub mod Step
 pub mod Order
 pub mod Cases
 pub mod Statements
-pub mod Machines
-pub mod Facts
-pub mod Move

@@ -16,8 +16,8 @@ use Rattle.tables.specs.Machine.{Machine, Tables}
 use Rattle.tables.specs.Parts.{onEx, isFree, isVar, isEx, isAsking, exWeight, entryWeight, isEmpty, onRead}
 use Rattle.tables.specs.Look.{cell, entry, end, endKind, safe, entryOf, exported, busy, lowestFreeEntry, lowestEmptySlot, freeCells, booked, message, room}
 use Rattle.rules.specs.Answers.{Check, _when_}
-use Rattle.rules.specs.Chains.{entryEnd}
-use Rattle.rules.specs.Sound.{sound}
+use Rattle.states.specs.Chains.{entryEnd}
+use Rattle.states.specs.Sound.{sound}
 
 -- a read of an idle EX sends
 abbrev pub idle : Status → Bool

@@ -20,11 +20,11 @@ use Rattle.tables.specs.Machine.{Machine, Tables}
 use Rattle.tables.specs.Parts.{isFree, isVar, isEx, exNames, isLive, isTainted, entryNames, cellOf, entryWeight, isEmpty}
 use Rattle.tables.specs.Look.{cell, entry, liveEntries, message}
 use Rattle.rules.specs.Answers.{succeeds}
-use Rattle.rules.specs.Sound.{held, sound}
-use Rattle.rules.specs.Chains.{entryEnd, ahead, EndsIn, LeadsTo}
+use Rattle.states.specs.Sound.{held, sound}
+use Rattle.states.specs.Chains.{entryEnd, ahead, EndsIn, LeadsTo}
 use Rattle.rules.specs.Refusals.{ready}
 use Rattle.rules.specs.Calls.{start, B}
-use Rattle.rules.specs.Machines.{Sized}
+use Rattle.states.specs.Machines.{Sized}
 use Rattle.rules.specs.Step.{isStart, step, run, delivers, drained, successes, Reached}
 
 -- a list of calls with no start in it

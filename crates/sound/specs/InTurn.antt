@@ -5,7 +5,7 @@ use mathlib.Core.Bool.{Bool, true, false, _&&_, not, cond}
 use lib.Dec.{eqb}
 use borrow.Author.Tests.{not-true, not-false}
 use Rattle.tables.specs.Machine.{Machine, Tables}
-use Rattle.rules.specs.Sound.{sound, firstBroken, point1, point2, point3, point4, point5, point6}
+use Rattle.states.specs.Sound.{sound, firstBroken, point1, point2, point3, point4, point5, point6}
 
 -- r is what the test returned: it failed, or it held and the rest decides
 pub broken : {r a : Bool} (x y : ℕ) → r ≡ a → not r ≡ true → y ≡ cond a x y

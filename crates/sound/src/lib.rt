@@ -1,7 +1,7 @@
 // The soundness test, and the first broken point.
 ghost use mathlib.Core.Path.{_≡_};
 ghost use Rattle.tables.specs.Machine.{eight, tables};
-ghost use Rattle.rules.specs.Sound.{sound, firstBroken};
+ghost use Rattle.states.specs.Sound.{sound, firstBroken};
 use tables::State;
 
 // The place, 1 to 6, of the first broken point; 0 where none is.

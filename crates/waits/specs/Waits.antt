@@ -18,7 +18,7 @@ use Rattle.tables.specs.Machine.{Machine, Tables}
 use Rattle.tables.specs.Parts.{isReading, isAsking, exNames, namedBy, isAt, isLive, isEmpty}
 use Rattle.tables.specs.Look.{messageAt, cell}
 use Rattle.searches.specs.Laws.{count-total}
-use Rattle.rules.specs.Sound.{readsFor, asksFor, readsOf, asksOf, cellAwaited, messageHasIts}
+use Rattle.states.specs.Sound.{readsFor, asksFor, readsOf, asksOf, cellAwaited, messageHasIts}
 use Rattle.places.specs.Places.{waiterOf, cellFor, entryThere}
 use Rattle.chains.specs.declared.Hop.{Hop}
 use Rattle.chains.specs.Hops.{stepBy, Followed, reached-by}

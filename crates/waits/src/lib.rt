@@ -1,7 +1,7 @@
 // Point 4 of a sound state: reading and asking EX and their messages, and what messages name.
 ghost use mathlib.Core.Path.{_≡_};
 ghost use Rattle.tables.specs.Machine.{eight, tables};
-ghost use Rattle.rules.specs.Sound.{readsFor, asksFor, eachCell, eachMessage, cellAwaited, messageHasIts, point4};
+ghost use Rattle.states.specs.Sound.{readsFor, asksFor, eachCell, eachMessage, cellAwaited, messageHasIts, point4};
 ghost use Rattle.waits.specs.Waits.{namedEntry, messageSeen};
 use chains::Hops;
 use numbers::bit_of;

@@ -17,7 +17,7 @@ use Rattle.tables.specs.declared.Message.the-variants.{Empty, Reference, Releas
 use Rattle.tables.specs.Machine.{Machine, Tables}
 use Rattle.tables.specs.Parts.{exNames, isUnused}
 use Rattle.tables.specs.Look.{kindAt, messageAt, cell}
-use Rattle.rules.specs.Sound.{cellHolds, messageHolds, held, entryWeighs}
+use Rattle.states.specs.Sound.{cellHolds, messageHolds, held, entryWeighs}
 use Rattle.places.specs.Places.{waiterOf, cellFor}
 
 -- what a message holds on the entry e of worker o, where the EX that waits for it is k

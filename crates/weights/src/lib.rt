@@ -2,7 +2,7 @@
 ghost use mathlib.Core.Path.{_≡_};
 ghost use mathlib.Core.Bool.{cond};
 ghost use Rattle.tables.specs.Machine.{Tables, eight, tables};
-ghost use Rattle.rules.specs.Sound.{cellHolds, point5, point6};
+ghost use Rattle.states.specs.Sound.{cellHolds, point5, point6};
 ghost use Rattle.weights.specs.Held.{messageHoldsSeen, holdsNothing, weighsSeen};
 use numbers::bit_of;
 use numbers::both;

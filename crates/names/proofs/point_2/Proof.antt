@@ -8,7 +8,7 @@ use Rattle.loops.specs.Searching.{Counting, count-start, count-step, count-end}
 use Rattle.tables.specs.Machine.{eight, tables}
 use Rattle.tables.specs.Look.{kindAt}
 use Rattle.searches.specs.Laws.{bit-small}
-use Rattle.rules.specs.Sound.{cellNames, point2}
+use Rattle.states.specs.Sound.{cellNames, point2}
 use Rattle.loops.specs.Passing.{Passing, pass-start, pass-over, pass-step, pass-each}
 use Rattle.places.specs.Places.{namesPlace, cell-read, entry-read}
 use Rattle.names.specs.Names.{nothing-named, cell-names-by}

@@ -9,7 +9,7 @@ use Rattle.tables.specs.Machine.{eight, tables}
 use Rattle.tables.specs.Parts.{entryNames}
 use Rattle.tables.specs.Look.{holdingAt}
 use Rattle.searches.specs.Laws.{bit-small}
-use Rattle.rules.specs.Sound.{entryNamesCell, point3}
+use Rattle.states.specs.Sound.{entryNamesCell, point3}
 use Rattle.loops.specs.Passing.{Passing, pass-start, pass-over, pass-step, pass-each}
 use Rattle.places.specs.Places.{cell-read, entry-read}
 use Rattle.names.specs.Names.{unused-names, entry-names-by}

@@ -6,7 +6,7 @@ use lib.Dec.{ltb}
 use borrow.Author.Needs.{needs}
 use Rattle.tables.specs.Machine.{Tables, eight}
 use Rattle.tables.specs.Look.{kindAt}
-use Rattle.rules.specs.Sound.{cellInRange}
+use Rattle.states.specs.Sound.{cellInRange}
 use Rattle.loops.specs.Passing.{Passing, pass-start, pass-over, pass-step, pass-each}
 use Rattle.ranges.specs.Ranges.{free-in-range, cell-in-range-by}
 use Rattle.ranges.proofs.cells_in_range.Statement.{statement}

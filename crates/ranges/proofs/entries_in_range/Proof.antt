@@ -6,7 +6,7 @@ use lib.Dec.{ltb}
 use borrow.Author.Needs.{needs}
 use Rattle.tables.specs.Machine.{Tables, eight}
 use Rattle.tables.specs.Look.{holdingAt}
-use Rattle.rules.specs.Sound.{entryInRange}
+use Rattle.states.specs.Sound.{entryInRange}
 use Rattle.loops.specs.Passing.{Passing, pass-start, pass-over, pass-step, pass-each}
 use Rattle.ranges.specs.Ranges.{unused-in-range, entry-in-range-by}
 use Rattle.ranges.proofs.entries_in_range.Statement.{statement}

@@ -4,7 +4,7 @@ use mathlib.Core.Path.{_≡_}
 use borrow.Author.Needs.{needs}
 use Rattle.tables.specs.Machine.{Tables, eight}
 use Rattle.tables.specs.Look.{messageAt}
-use Rattle.rules.specs.Sound.{messageInRange}
+use Rattle.states.specs.Sound.{messageInRange}
 use Rattle.loops.specs.Passing.{Passing, pass-start, pass-step, pass-each}
 use Rattle.ranges.proofs.messages_in_range.Statement.{statement}
 use Rattle.ranges.proofs.messages_in_range.Tie as tie

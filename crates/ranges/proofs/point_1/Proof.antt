@@ -1,7 +1,7 @@
 -- `ranges::point_1` meets its contract: P, the cells, the entries and the messages. Assumes nothing.
 use mathlib.Core.Path.{refl}
 use Rattle.tables.specs.Machine.{tables}
-use Rattle.rules.specs.Sound.{point1}
+use Rattle.states.specs.Sound.{point1}
 use Rattle.ranges.proofs.point_1.Statement.{statement}
 use Rattle.ranges.proofs.point_1.Tie as tie
 

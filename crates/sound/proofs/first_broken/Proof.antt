@@ -5,7 +5,7 @@ use mathlib.Core.Bool.{Bool, cond}
 use mathlib.Core.List.{List, [], _∷_}
 use lib.ListN.{drop}
 use Rattle.tables.specs.Machine.{Tables, eight, tables}
-use Rattle.rules.specs.Sound.{point1, point2, point3, point4, point5, point6, firstBroken}
+use Rattle.states.specs.Sound.{point1, point2, point3, point4, point5, point6, firstBroken}
 use Rattle.sound.specs.InTurn.{broken, kept}
 use Rattle.sound.proofs.first_broken.Statement.{statement}
 use Rattle.sound.proofs.first_broken.Tie as tie

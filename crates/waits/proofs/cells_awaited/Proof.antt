@@ -8,7 +8,7 @@ use Rattle.loops.specs.Searching.{Counting, count-start, count-step, count-end}
 use Rattle.tables.specs.Machine.{eight, tables}
 use Rattle.tables.specs.Look.{kindAt, messageAt}
 use Rattle.searches.specs.Laws.{bit-small}
-use Rattle.rules.specs.Sound.{readsFor, asksFor, cellAwaited}
+use Rattle.states.specs.Sound.{readsFor, asksFor, cellAwaited}
 use Rattle.loops.specs.Passing.{Passing, pass-start, pass-over, pass-step, pass-each}
 use Rattle.waits.specs.Waits.{cell-awaited-by, nothing-awaited}
 use Rattle.waits.proofs.cells_awaited.Statement.{statement}

@@ -5,7 +5,7 @@ use borrow.Author.Needs.{needs}
 use lib.ListN.{length, length-map}
 use Rattle.tables.specs.Machine.{eight, tables}
 use Rattle.tables.specs.Look.{messageAt}
-use Rattle.rules.specs.Sound.{messageHasIts}
+use Rattle.states.specs.Sound.{messageHasIts}
 use Rattle.loops.specs.Passing.{Passing, pass-start, pass-over, pass-step, pass-each}
 use Rattle.places.specs.Places.{cell-read, entry-read}
 use Rattle.waits.specs.Waits.{message-has-by, empty-has}

@@ -1,5 +1,5 @@
 -- `waits::point_4` meets its contract: the cells and the messages. Assumes nothing.
-use Rattle.rules.specs.Sound.{point4}
+use Rattle.states.specs.Sound.{point4}
 use Rattle.waits.proofs.point_4.Statement.{statement}
 use Rattle.waits.proofs.point_4.Tie as tie
 

@@ -6,7 +6,7 @@ use borrow.Author.Needs.{needs}
 use lib.ListN.{length, length-map}
 use Rattle.tables.specs.Machine.{eight, tables}
 use Rattle.tables.specs.Look.{kindAt, holdingAt, messageAt}
-use Rattle.rules.specs.Sound.{cellHolds, messageHolds, entryWeighs, point5}
+use Rattle.states.specs.Sound.{cellHolds, messageHolds, entryWeighs, point5}
 use Rattle.loops.specs.Passing.{Passing, pass-start, pass-over, pass-step, pass-each}
 use Rattle.loops.specs.Summing.{Summing, add-start, add-step, add-over, add-end}
 use Rattle.places.specs.Places.{cell-read}

@@ -10,7 +10,7 @@ use Rattle.tables.specs.Machine.{eight, tables}
 use Rattle.tables.specs.Parts.{isFree, goesTo}
 use Rattle.tables.specs.Look.{cell, messageAt, booked, freeCells}
 use Rattle.searches.specs.Laws.{bit-small, count-total}
-use Rattle.rules.specs.Sound.{roomForBooked, point6}
+use Rattle.states.specs.Sound.{roomForBooked, point6}
 use Rattle.loops.specs.Passing.{Passing, pass-start, pass-step, pass-end}
 use Rattle.places.specs.Places.{cell-read}
 use Rattle.weights.proofs.point_6.Statement.{statement}

@@ -13,8 +13,8 @@ use Rattle.tables.specs.declared.Place.the-variants.{Nowhere, At}
 use Rattle.tables.specs.Machine.{Machine, Tables}
 use Rattle.tables.specs.Parts.{namedBy, isAt}
 use Rattle.tables.specs.Look.{entry, endKind}
-use Rattle.rules.specs.Chains.{through, follow, ahead, EndsIn}
-use Rattle.rules.proofs.Named.{eq-both, both-eq, nowhere-at, IsLive}
+use Rattle.states.specs.Chains.{through, follow, ahead, EndsIn}
+use Rattle.states.proofs.Named.{eq-both, both-eq, nowhere-at, IsLive}
 
 -- from nowhere no step leads on
 pub ahead-nowhere : (𝓜 : Machine) (s : Tables) (n : ℕ) → ahead 𝓜 s n Nowhere ≡ Nowhere

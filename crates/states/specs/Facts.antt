@@ -18,9 +18,9 @@ use Rattle.tables.specs.declared.Place.the-variants.{At}
 use Rattle.tables.specs.Machine.{Machine, Tables}
 use Rattle.tables.specs.Parts.{isFree, isEx, isReading, isAsking, exNames, namedBy, entryNames, entryWeight}
 use Rattle.tables.specs.Look.{cell, entry, endKind, booked, freeCells, message}
-use Rattle.rules.specs.Chains.{ahead, EndsIn}
-use Rattle.rules.specs.Sound.{varValOrSafe, readsOf, asksOf, held}
-use Rattle.rules.specs.Machines.{Sized}
+use Rattle.states.specs.Chains.{ahead, EndsIn}
+use Rattle.states.specs.Sound.{varValOrSafe, readsOf, asksOf, held}
+use Rattle.states.specs.Machines.{Sized}
 
 module _ (𝓜 : Machine) (s : Tables) where
   -- a cell of worker w

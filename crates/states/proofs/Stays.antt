@@ -11,16 +11,16 @@ use Rattle.tables.specs.declared.Place.the-variants.{Nowhere, At}
 use Rattle.tables.specs.Machine.{Machine, Tables}
 use Rattle.tables.specs.Parts.{namedBy, isLive, isTainted}
 use Rattle.tables.specs.Look.{entry, endKind}
-use Rattle.rules.specs.Chains.{follow}
-use Rattle.rules.specs.Facts.{Facts, Reads}
-use Rattle.rules.proofs.Named.{the-live, both-eq, eq-both}
-use Rattle.rules.proofs.Derived.{live-fact, follow-place}
-use Rattle.rules.specs.Move.{Move, next, Keeps, ReadsOn, Carries, Makes, nothing, moved, Ranked, Invariant}
-use Rattle.rules.proofs.Next.{entry-stored}
-use Rattle.rules.proofs.Kept.{live-kept, facts-kept}
-use Rattle.rules.proofs.Walks.{follow-live}
-use Rattle.rules.proofs.Carried.{reads-kept, known-kept-all}
-use Rattle.rules.proofs.Rank.{safe-ex, good-named, ranked-by, Fits}
+use Rattle.states.specs.Chains.{follow}
+use Rattle.states.specs.Facts.{Facts, Reads}
+use Rattle.states.proofs.Named.{the-live, both-eq, eq-both}
+use Rattle.states.proofs.Derived.{live-fact, follow-place}
+use Rattle.states.specs.Move.{Move, next, Keeps, ReadsOn, Carries, Makes, nothing, moved, Ranked, Invariant}
+use Rattle.states.proofs.Next.{entry-stored}
+use Rattle.states.proofs.Kept.{live-kept, facts-kept}
+use Rattle.states.proofs.Walks.{follow-live}
+use Rattle.states.proofs.Carried.{reads-kept, known-kept-all}
+use Rattle.states.proofs.Rank.{safe-ex, good-named, ranked-by, Fits}
 
 rankAt : (ℕ → ℕ → ℕ) → Place → ℕ
 rankAt r Nowhere = 0

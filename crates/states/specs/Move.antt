@@ -17,9 +17,9 @@ use Rattle.tables.specs.declared.Place.the-variants.{At}
 use Rattle.tables.specs.Machine.{Machine, Tables, withCells, withEntries, withSlots}
 use Rattle.tables.specs.Parts.{onEx, isFree, isVar, isVal, isEx, isReading, isAsking, exNames, isLive, isTainted, entryNames, entryWeight, goesTo, cellOf}
 use Rattle.tables.specs.Look.{cell, entry, safe, exported, busy, booked, freeCells, message}
-use Rattle.rules.specs.Chains.{follow}
-use Rattle.rules.specs.Sound.{readsFor, asksFor, cellHolds, messageHolds}
-use Rattle.rules.specs.Facts.{CellFact, EntryFact, MessageFact, Facts, ReadAhead, Reads, KnownFact, AnswerFact}
+use Rattle.states.specs.Chains.{follow}
+use Rattle.states.specs.Sound.{readsFor, asksFor, cellHolds, messageHolds}
+use Rattle.states.specs.Facts.{CellFact, EntryFact, MessageFact, Facts, ReadAhead, Reads, KnownFact, AnswerFact}
 
 -- the cell c of worker w, the entry e of worker o and the slot i: what stood there, and what stands there then
 pub record Move : Type 0 where

@@ -14,16 +14,16 @@ use Rattle.tables.specs.declared.Place.the-variants.{Nowhere, At}
 use Rattle.tables.specs.Machine.{Machine, Tables}
 use Rattle.tables.specs.Parts.{namedBy}
 use Rattle.tables.specs.Look.{cell, message}
-use Rattle.rules.specs.Sound.{readsFor}
-use Rattle.rules.specs.Chains.{ahead}
-use Rattle.rules.specs.Facts.{Facts, ReadAhead, Reads, StatusFact, KnownFact, AnswerFact}
-use Rattle.rules.proofs.Named.{eq-both}
-use Rattle.rules.proofs.Derived.{reading-cell, LivePlace, named-place}
-use Rattle.rules.specs.Move.{Move, next, Keeps, ReadsOn, TrueValues, Carries}
-use Rattle.rules.proofs.Stored.{stored-each}
-use Rattle.rules.proofs.Next.{cell-stored, messages-all}
-use Rattle.rules.proofs.Kept.{shown-name, reading-shown, facts-kept}
-use Rattle.rules.proofs.Onward.{ahead-kept, ends-kept}
+use Rattle.states.specs.Sound.{readsFor}
+use Rattle.states.specs.Chains.{ahead}
+use Rattle.states.specs.Facts.{Facts, ReadAhead, Reads, StatusFact, KnownFact, AnswerFact}
+use Rattle.states.proofs.Named.{eq-both}
+use Rattle.states.proofs.Derived.{reading-cell, LivePlace, named-place}
+use Rattle.states.specs.Move.{Move, next, Keeps, ReadsOn, TrueValues, Carries}
+use Rattle.states.proofs.Stored.{stored-each}
+use Rattle.states.proofs.Next.{cell-stored, messages-all}
+use Rattle.states.proofs.Kept.{shown-name, reading-shown, facts-kept}
+use Rattle.states.proofs.Onward.{ahead-kept, ends-kept}
 
 module _ (𝓜 : Machine) (s : Tables) (h : Move) (F : Facts 𝓜 s) (K : Keeps 𝓜 s h) where
   F′ : Facts 𝓜 (next 𝓜 s h)

@@ -17,13 +17,13 @@ use Rattle.tables.specs.declared.Message.the-variants.{Empty, Reference, Releas
 use Rattle.tables.specs.Machine.{Machine, Tables}
 use Rattle.tables.specs.Parts.{isFree, readingOf, isReading, isAsking, exNames, namedBy, entryNames, entryWeight}
 use Rattle.tables.specs.Look.{cell, entry, endKind, booked, freeCells, message}
-use Rattle.rules.specs.Sound.{readsFor, asksFor, kindInRange, messageInRange, cellInRange, entryInRange, exesNaming, cellNames, entriesNaming, varValOrSafe, entryNamesCell, readsOf, asksOf, cellAwaited, messageHasIts, messageHolds, held, entryWeighs, roomForBooked, point1, point2, point3, point4, point5, point6, sound}
-use Rattle.rules.specs.Machines.{Laws}
-use Rattle.rules.specs.Facts.{EntryFact, Facts, Reads}
-use Rattle.rules.proofs.Inside.{cell-inside, each-cell-of, each-entry-of, each-message-of}
-use Rattle.rules.proofs.Named.{eq-both, on-ex, ex-not-free}
-use Rattle.rules.proofs.Reach.{reached-of}
-use Rattle.rules.proofs.Derived.{cell-used, live-used, held-le, held-live, ex-held, ex-live, names-live, sent-held, reading-cell, asking-cell, read-live, cell-fact, message-fact}
+use Rattle.states.specs.Sound.{readsFor, asksFor, kindInRange, messageInRange, cellInRange, entryInRange, exesNaming, cellNames, entriesNaming, varValOrSafe, entryNamesCell, readsOf, asksOf, cellAwaited, messageHasIts, messageHolds, held, entryWeighs, roomForBooked, point1, point2, point3, point4, point5, point6, sound}
+use Rattle.states.specs.Machines.{Laws}
+use Rattle.states.specs.Facts.{EntryFact, Facts, Reads}
+use Rattle.states.proofs.Inside.{cell-inside, each-cell-of, each-entry-of, each-message-of}
+use Rattle.states.proofs.Named.{eq-both, on-ex, ex-not-free}
+use Rattle.states.proofs.Reach.{reached-of}
+use Rattle.states.proofs.Derived.{cell-used, live-used, held-le, held-live, ex-held, ex-live, names-live, sent-held, reading-cell, asking-cell, read-live, cell-fact, message-fact}
 
 -- a test that a count demands only where a mark is set
 awaits : (b : Bool) (n : ℕ) → n ≡ bit b → (not b || eqb n 1) ≡ true

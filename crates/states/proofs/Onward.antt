@@ -15,14 +15,14 @@ use Rattle.tables.specs.declared.Place.the-variants.{Nowhere, At}
 use Rattle.tables.specs.Machine.{Machine, Tables}
 use Rattle.tables.specs.Parts.{isFree, isVar, isEx, namedBy, isLive, entryNames, cellOf}
 use Rattle.tables.specs.Look.{cell, entry, endKind, safe, exported}
-use Rattle.rules.specs.Chains.{entryEnd, follow, ahead, EndsIn}
-use Rattle.rules.specs.Facts.{Facts}
-use Rattle.rules.proofs.Named.{nowhere-at, the-live, IsLive}
-use Rattle.rules.proofs.Walks.{ahead-nowhere, follow-live, follow-from}
-use Rattle.rules.proofs.Busy.{exported-by}
-use Rattle.rules.proofs.Derived.{live-fact, LivePlace, follow-place, ahead-place, cell-fact}
-use Rattle.rules.specs.Move.{Move, next, Keeps}
-use Rattle.rules.proofs.Kept.{shown-name, var-val-end, exported-shown, referred-shown, ex-after, VarAfter, var-or-val, ref-to-safe, var-after, live-kept, end-ref, end-self, facts-kept, exported-same}
+use Rattle.states.specs.Chains.{entryEnd, follow, ahead, EndsIn}
+use Rattle.states.specs.Facts.{Facts}
+use Rattle.states.proofs.Named.{nowhere-at, the-live, IsLive}
+use Rattle.states.proofs.Walks.{ahead-nowhere, follow-live, follow-from}
+use Rattle.states.proofs.Busy.{exported-by}
+use Rattle.states.proofs.Derived.{live-fact, LivePlace, follow-place, ahead-place, cell-fact}
+use Rattle.states.specs.Move.{Move, next, Keeps}
+use Rattle.states.proofs.Kept.{shown-name, var-val-end, exported-shown, referred-shown, ex-after, VarAfter, var-or-val, ref-to-safe, var-after, live-kept, end-ref, end-self, facts-kept, exported-same}
 
 module _ (𝓜 : Machine) (s : Tables) (h : Move) (F : Facts 𝓜 s) (K : Keeps 𝓜 s h) where
   abbrev s′ : Tables

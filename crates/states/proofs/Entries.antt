@@ -11,12 +11,12 @@ use Rattle.tables.specs.declared.Message.{Message}
 use Rattle.tables.specs.Machine.{Machine, Tables}
 use Rattle.tables.specs.Parts.{isFree, isTainted, endFrom}
 use Rattle.tables.specs.Look.{cell, entry, end, endKind, safe}
-use Rattle.rules.specs.Sound.{varValOrSafe}
-use Rattle.rules.specs.Facts.{CellFact, EntryFact, Facts}
-use Rattle.rules.specs.Move.{Move, next, Placed}
-use Rattle.rules.proofs.Stored.{stored-each}
-use Rattle.rules.proofs.Next.{cell-stored, entry-stored}
-use Rattle.rules.proofs.Moves.{entryMove}
+use Rattle.states.specs.Sound.{varValOrSafe}
+use Rattle.states.specs.Facts.{CellFact, EntryFact, Facts}
+use Rattle.states.specs.Move.{Move, next, Placed}
+use Rattle.states.proofs.Stored.{stored-each}
+use Rattle.states.proofs.Next.{cell-stored, entry-stored}
+use Rattle.states.proofs.Moves.{entryMove}
 
 module _ (𝓜 : Machine) (s : Tables) (F : Facts 𝓜 s) {o e : ℕ} {x₀ x : Holding} {i : ℕ} {m₀ m : Message} (P : Placed 𝓜 s (entryMove 𝓜 s o e x₀ x i m₀ m)) where
   -- the move, and the tables after it

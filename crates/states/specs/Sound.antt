@@ -13,7 +13,7 @@ use Rattle.tables.specs.declared.Place.{Place}
 use Rattle.tables.specs.Machine.{Machine, Tables}
 use Rattle.tables.specs.Parts.{onEx, onNames, isFree, isVar, isVal, isEx, readingOf, isReading, isAsking, exNames, namedBy, isAt, isUnused, isLive, entryNames}
 use Rattle.tables.specs.Look.{cell, entry, endKind, safe, booked, freeCells}
-use Rattle.rules.specs.Chains.{follow}
+use Rattle.states.specs.Chains.{follow}
 
 -- a Read or an Answer for the cell c of worker w
 abbrev pub readsFor : ℕ → ℕ → Message → Bool

@@ -21,12 +21,12 @@ use Rattle.tables.specs.declared.Message.the-variants.{Empty, Reference, Releas
 use Rattle.tables.specs.Machine.{Machine, Tables}
 use Rattle.tables.specs.Parts.{isFree, readingOf, isReading, isAsking, exNames, namedBy, isLive, entryNames, entryWeight, goesTo}
 use Rattle.tables.specs.Look.{cell, entry, endKind, booked, freeCells, message}
-use Rattle.rules.specs.Sound.{readsFor, asksFor, eachCell, kindInRange, messageInRange, cellInRange, entryInRange, exesNaming, cellNames, entriesNaming, varValOrSafe, entryNamesCell, readsOf, asksOf, cellAwaited, reached, messageHasIts, cellHolds, messageHolds, held, entryWeighs, roomForBooked, point1, point2, point3, point4, point5, point6, sound, eachEntry, eachMessage}
-use Rattle.rules.specs.Machines.{Laws, Sized}
-use Rattle.rules.specs.Facts.{CellFact, EntryFact, MessageFact, Facts, ReadAhead, Reads}
-use Rattle.rules.proofs.Inside.{cell-inside, entry-inside, each-cell-at, each-entry-at, each-message-at, flat-none}
-use Rattle.rules.proofs.Named.{both-eq, ex-not-free, ExOf, the-ex-of, the-entry-of, names-live-entry}
-use Rattle.rules.proofs.Reach.{reached-ahead}
+use Rattle.states.specs.Sound.{readsFor, asksFor, eachCell, kindInRange, messageInRange, cellInRange, entryInRange, exesNaming, cellNames, entriesNaming, varValOrSafe, entryNamesCell, readsOf, asksOf, cellAwaited, reached, messageHasIts, cellHolds, messageHolds, held, entryWeighs, roomForBooked, point1, point2, point3, point4, point5, point6, sound, eachEntry, eachMessage}
+use Rattle.states.specs.Machines.{Laws, Sized}
+use Rattle.states.specs.Facts.{CellFact, EntryFact, MessageFact, Facts, ReadAhead, Reads}
+use Rattle.states.proofs.Inside.{cell-inside, entry-inside, each-cell-at, each-entry-at, each-message-at, flat-none}
+use Rattle.states.proofs.Named.{both-eq, ex-not-free, ExOf, the-ex-of, the-entry-of, names-live-entry}
+use Rattle.states.proofs.Reach.{reached-ahead}
 
 -- a worker in use, where its cell is not free
 in-use : (b r : Bool) → ((b || false) && r) ≡ true → b ≡ true

@@ -13,11 +13,11 @@ use Rattle.tables.specs.declared.Place.the-variants.{Nowhere, At}
 use Rattle.tables.specs.Machine.{Machine, Tables}
 use Rattle.tables.specs.Parts.{isLive}
 use Rattle.tables.specs.Look.{entry}
-use Rattle.rules.specs.Chains.{follow, ahead}
-use Rattle.rules.specs.Sound.{reached}
-use Rattle.rules.proofs.Inside.{entry-inside}
-use Rattle.rules.proofs.Named.{nowhere-at}
-use Rattle.rules.proofs.Walks.{ahead-nowhere, follow-from, ahead-add, walk-ahead, ahead-walk}
+use Rattle.states.specs.Chains.{follow, ahead}
+use Rattle.states.specs.Sound.{reached}
+use Rattle.states.proofs.Inside.{entry-inside}
+use Rattle.states.proofs.Named.{nowhere-at}
+use Rattle.states.proofs.Walks.{ahead-nowhere, follow-from, ahead-add, walk-ahead, ahead-walk}
 
 -- a place that is a live entry
 record LiveAt (𝓜 : Machine) (s : Tables) (p : Place) : Type 0 where

@@ -12,12 +12,12 @@ use Rattle.tables.specs.declared.Place.the-variants.{At}
 use Rattle.tables.specs.Machine.{Machine, Tables}
 use Rattle.tables.specs.Parts.{isFree, isVar, isVal, isEx, namedBy, isLive, entryNames, cellOf}
 use Rattle.tables.specs.Look.{cell, entry, endKind}
-use Rattle.rules.specs.Chains.{entryEnd, follow}
-use Rattle.rules.specs.Facts.{Facts}
-use Rattle.rules.proofs.Named.{the-ex, the-live}
-use Rattle.rules.proofs.Walks.{follow-live}
-use Rattle.rules.proofs.Derived.{live-fact, cell-fact}
-use Rattle.rules.proofs.Kept.{end-self, end-ref}
+use Rattle.states.specs.Chains.{entryEnd, follow}
+use Rattle.states.specs.Facts.{Facts}
+use Rattle.states.proofs.Named.{the-ex, the-live}
+use Rattle.states.proofs.Walks.{follow-live}
+use Rattle.states.proofs.Derived.{live-fact, cell-fact}
+use Rattle.states.proofs.Kept.{end-self, end-ref}
 
 abbrev pub VarOrVal : Kind → Type 0
 VarOrVal k = (isVar k || isVal k) ≡ true

@@ -19,13 +19,13 @@ use Rattle.tables.specs.Machine.{Machine, Tables}
 use Rattle.tables.specs.Parts.{isVar, isVal, isLive}
 use Rattle.tables.specs.Look.{holdingAt, entry, liveEntries}
 use Rattle.tables.specs.Laws.{entry-in}
-use Rattle.rules.specs.Chains.{entryEnd, ahead}
-use Rattle.rules.specs.Machines.{Laws, Sized}
-use Rattle.rules.specs.Facts.{Facts}
-use Rattle.rules.proofs.Inside.{entry-inside}
-use Rattle.rules.proofs.Ends.{EndIs, plain, leads, entry-end-is, entry-leads}
-use Rattle.rules.proofs.Derived.{follow-place}
-use Rattle.rules.specs.Move.{Ranked}
+use Rattle.states.specs.Chains.{entryEnd, ahead}
+use Rattle.states.specs.Machines.{Laws, Sized}
+use Rattle.states.specs.Facts.{Facts}
+use Rattle.states.proofs.Inside.{entry-inside}
+use Rattle.states.proofs.Ends.{EndIs, plain, leads, entry-end-is, entry-leads}
+use Rattle.states.proofs.Derived.{follow-place}
+use Rattle.states.specs.Move.{Ranked}
 
 -- where a holds only where b does
 pub bit-mono : (a b : Bool) → (a ≡ true → b ≡ true) → bit a ≤ bit b

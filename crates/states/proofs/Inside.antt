@@ -24,8 +24,8 @@ use Rattle.tables.specs.Machine.{Machine, Tables}
 use Rattle.tables.specs.Parts.{isFree, isLive}
 use Rattle.tables.specs.Look.{kindAt, holdingAt, cell, entry, message}
 use Rattle.tables.specs.Laws.{cell-in, entry-in}
-use Rattle.rules.specs.Sound.{eachCell, eachEntry, eachMessage}
-use Rattle.rules.specs.Machines.{Laws, Sized}
+use Rattle.states.specs.Sound.{eachCell, eachEntry, eachMessage}
+use Rattle.states.specs.Machines.{Laws, Sized}
 
 -- a choice that is inside only where both tests hold
 chosen : {X : Type 0} (P : X → Type 0) (W C w c : ℕ) (x d : X) → P d → (w < W → c < C → P x) → P (cond (ltb w W && ltb c C) x d)

@@ -19,11 +19,11 @@ use Rattle.tables.specs.declared.Place.the-variants.{Nowhere, At}
 use Rattle.tables.specs.Machine.{Machine, Tables}
 use Rattle.tables.specs.Parts.{isFree, isReading, isAsking, exNames, namedBy, isLive, entryWeight}
 use Rattle.tables.specs.Look.{cell, entry, end, endKind, message}
-use Rattle.rules.specs.Chains.{through, follow, ahead}
-use Rattle.rules.specs.Sound.{readsFor, asksFor, readsOf, asksOf, cellHolds, messageHolds, held}
-use Rattle.rules.specs.Facts.{CellFact, EntryFact, Facts, ReadAhead, Reads, MessageFact}
-use Rattle.rules.proofs.Inside.{entry-inside, cell-total, message-total}
-use Rattle.rules.proofs.Named.{eq-both, nowhere-at, named-ex, IsLive, the-live, the-ex-of}
+use Rattle.states.specs.Chains.{through, follow, ahead}
+use Rattle.states.specs.Sound.{readsFor, asksFor, readsOf, asksOf, cellHolds, messageHolds, held}
+use Rattle.states.specs.Facts.{CellFact, EntryFact, Facts, ReadAhead, Reads, MessageFact}
+use Rattle.states.proofs.Inside.{entry-inside, cell-total, message-total}
+use Rattle.states.proofs.Named.{eq-both, nowhere-at, named-ex, IsLive, the-live, the-ex-of}
 
 -- a weight that is not 0 is a live entry's
 pub weight-live : (x : Holding) → 1 ≤ entryWeight x → isLive x ≡ true

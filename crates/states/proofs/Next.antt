@@ -24,9 +24,9 @@ use Rattle.tables.specs.Machine.{Machine, Tables}
 use Rattle.tables.specs.Parts.{isFree}
 use Rattle.tables.specs.Look.{kindAt, cell, entry, message, freeCells}
 use Rattle.tables.specs.Laws.{cell-in}
-use Rattle.rules.specs.Machines.{Sized}
-use Rattle.rules.specs.Move.{Move, next, Placed}
-use Rattle.rules.proofs.Stored.{Stored, stored-row, rows-stored}
+use Rattle.states.specs.Machines.{Sized}
+use Rattle.states.specs.Move.{Move, next, Placed}
+use Rattle.states.proofs.Stored.{Stored, stored-row, rows-stored}
 
 module _ (𝓜 : Machine) (s : Tables) (h : Move) (z : Sized 𝓜 s) (P : Placed 𝓜 s h) where
   -- ---- each table before and after

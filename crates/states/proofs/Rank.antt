@@ -12,17 +12,17 @@ use Rattle.tables.specs.declared.Place.the-variants.{At}
 use Rattle.tables.specs.Machine.{Machine, Tables}
 use Rattle.tables.specs.Parts.{isEx, namedBy, isLive, isTainted}
 use Rattle.tables.specs.Look.{cell, entry, end, endKind, safe}
-use Rattle.rules.specs.Chains.{follow}
-use Rattle.rules.specs.Sound.{varValOrSafe}
-use Rattle.rules.specs.Facts.{Facts}
-use Rattle.rules.proofs.Named.{named-ex, the-live, IsLive}
-use Rattle.rules.proofs.Derived.{named-place, follow-place, cell-fact}
-use Rattle.rules.specs.Move.{Move, next, Keeps, Ranked}
-use Rattle.rules.proofs.Stored.{stored-each}
-use Rattle.rules.proofs.Next.{entry-stored}
-use Rattle.rules.proofs.Kept.{good-ex, live-kept, facts-kept}
-use Rattle.rules.proofs.Walks.{follow-live, follow-from}
-use Rattle.rules.proofs.Onward.{live-exported, after-live, end-kept, EndKept, as-before, newly-bound}
+use Rattle.states.specs.Chains.{follow}
+use Rattle.states.specs.Sound.{varValOrSafe}
+use Rattle.states.specs.Facts.{Facts}
+use Rattle.states.proofs.Named.{named-ex, the-live, IsLive}
+use Rattle.states.proofs.Derived.{named-place, follow-place, cell-fact}
+use Rattle.states.specs.Move.{Move, next, Keeps, Ranked}
+use Rattle.states.proofs.Stored.{stored-each}
+use Rattle.states.proofs.Next.{entry-stored}
+use Rattle.states.proofs.Kept.{good-ex, live-kept, facts-kept}
+use Rattle.states.proofs.Walks.{follow-live, follow-from}
+use Rattle.states.proofs.Onward.{live-exported, after-live, end-kept, EndKept, as-before, newly-bound}
 
 -- a safe EX names an untainted entry of a lower worker
 pub safe-ex : (𝓜 : Machine) (s : Tables) (v o e : ℕ) (k : Kind) → safe 𝓜 s v k ≡ true → namedBy k ≡ At o e → (o < v) × (isTainted (entry 𝓜 s o e) ≡ false)

@@ -16,7 +16,7 @@ use Rattle.numbers.specs.Below.{sumBelow}
 use Rattle.numbers.specs.Tests.{and-r, not-yes}
 use Rattle.numbers.specs.BelowLaws.{sum-cong, sum-point}
 use Rattle.numbers.specs.Grid.{grid-row, grid-column}
-use Rattle.rules.proofs.Named.{both-eq, eq-both}
+use Rattle.states.proofs.Named.{both-eq, eq-both}
 
 -- the place c of row w held a and then holds b
 pub record Stored {A : Type 0} (old new : ℕ → ℕ → A) (w c : ℕ) (a b : A) : Type 0 where

@@ -11,8 +11,8 @@ use Rattle.tables.specs.declared.Kind.the-variants.{Free, Var, Val, Ref, Ex}
 use Rattle.tables.specs.Machine.{Machine, Tables}
 use Rattle.tables.specs.Parts.{isFree, isReading, isAsking, refNames, entryNames}
 use Rattle.tables.specs.Look.{cell, entry, entryOf, exported, referred, busy}
-use Rattle.rules.proofs.Inside.{cell-inside, entry-inside}
-use Rattle.rules.proofs.Named.{names-live-entry}
+use Rattle.states.proofs.Inside.{cell-inside, entry-inside}
+use Rattle.states.proofs.Named.{names-live-entry}
 
 module _ (𝓜 : Machine) (s : Tables) (w c : ℕ) where
   pub exported-by : (e : ℕ) → entryNames c (entry 𝓜 s w e) ≡ true → exported 𝓜 s w c ≡ true

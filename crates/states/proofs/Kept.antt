@@ -22,14 +22,14 @@ use Rattle.tables.specs.declared.Message.the-variants.{Empty, Reference, Releas
 use Rattle.tables.specs.Machine.{Machine, Tables}
 use Rattle.tables.specs.Parts.{onEx, readingOf, isFree, isVar, isVal, isEx, isReading, isAsking, exNames, namedBy, endFrom, isLive, isTainted, entryNames, entryWeight, goesTo, cellOf}
 use Rattle.tables.specs.Look.{cell, entry, end, endKind, safe, exported, busy, booked, message}
-use Rattle.rules.specs.Sound.{readsFor, asksFor, varValOrSafe, readsOf, asksOf, cellHolds, messageHolds, held}
-use Rattle.rules.specs.Facts.{CellFact, EntryFact, MessageFact, Facts}
-use Rattle.rules.proofs.Named.{eq-both, ex-not-var, the-ex, the-ex-of, ExOf, on-ex, not-on-ex}
-use Rattle.rules.proofs.Busy.{exported-by, referred-by, busy-exported, busy-referred, busy-reading, busy-asking}
-use Rattle.rules.proofs.Derived.{ex-live, asking-cell, cell-fact}
-use Rattle.rules.specs.Move.{Move, next, shown, VarBecomes, stays, bound, Keeps}
-use Rattle.rules.proofs.Stored.{Stored, stored-each, stored-all, stored-number, stored-once}
-use Rattle.rules.proofs.Next.{cell-stored, entry-stored, messages-all, next-sized, cells-total, slots-total, free-count}
+use Rattle.states.specs.Sound.{readsFor, asksFor, varValOrSafe, readsOf, asksOf, cellHolds, messageHolds, held}
+use Rattle.states.specs.Facts.{CellFact, EntryFact, MessageFact, Facts}
+use Rattle.states.proofs.Named.{eq-both, ex-not-var, the-ex, the-ex-of, ExOf, on-ex, not-on-ex}
+use Rattle.states.proofs.Busy.{exported-by, referred-by, busy-exported, busy-referred, busy-reading, busy-asking}
+use Rattle.states.proofs.Derived.{ex-live, asking-cell, cell-fact}
+use Rattle.states.specs.Move.{Move, next, shown, VarBecomes, stays, bound, Keeps}
+use Rattle.states.proofs.Stored.{Stored, stored-each, stored-all, stored-number, stored-once}
+use Rattle.states.proofs.Next.{cell-stored, entry-stored, messages-all, next-sized, cells-total, slots-total, free-count}
 
 -- ---- cells that look the same to others
 -- what an EX's name says is the same of cells that look the same

@@ -26,12 +26,12 @@ use Rattle.tables.specs.Machine.{Machine, Tables, withCells, withEntries, withS
 use Rattle.tables.specs.Parts.{readingOf, isFree, isVar, isVal, isEx, isReading, isAsking, exNames, isLive, isTainted, entryNames, entryWeight, goesTo, cellOf}
 use Rattle.tables.specs.Look.{cell, entry, exported, busy, booked, freeCells, message, putCell, putEntry, putMessage}
 use Rattle.tables.specs.Laws.{cell-in, entry-in}
-use Rattle.rules.specs.Sound.{readsFor, asksFor, cellHolds, messageHolds}
-use Rattle.rules.specs.Machines.{Laws}
-use Rattle.rules.specs.Facts.{CellFact, EntryFact, MessageFact, Facts}
-use Rattle.rules.proofs.Inside.{cell-inside}
-use Rattle.rules.proofs.Derived.{cell-fact}
-use Rattle.rules.specs.Move.{Move, next, shown, VarBecomes, stays, ReferenceGoes, Keeps, Placed}
+use Rattle.states.specs.Sound.{readsFor, asksFor, cellHolds, messageHolds}
+use Rattle.states.specs.Machines.{Laws}
+use Rattle.states.specs.Facts.{CellFact, EntryFact, MessageFact, Facts}
+use Rattle.states.proofs.Inside.{cell-inside}
+use Rattle.states.proofs.Derived.{cell-fact}
+use Rattle.states.specs.Move.{Move, next, shown, VarBecomes, stays, ReferenceGoes, Keeps, Placed}
 
 -- a move of the cell c of worker w and of the slot i; the entry that stands first is left as it is
 abbrev pub cellMove : Machine → Tables → ℕ → ℕ → Kind → Kind → ℕ → Message → Message → Move
