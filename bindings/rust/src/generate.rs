@@ -63,7 +63,7 @@ pub const NOT_A_FRAME: &str = "not a frame";
 /// everywhere: no such state is reached from a start.
 pub const POSSIBLE: [(&str, &[u8]); 13] = [
     ("start", &[0x00, 1]),
-    ("new", &[0x00, 3, 12]),
+    ("new", &[0x00, 3, 12, 16]),
     ("set", &[0x00, 3, 5, 6]),
     ("bind", &[0x00, 3, 5, 6, 8]),
     ("export", &[0x00, 3, 4, 5, 9, 10, 11, 12, 13]),
@@ -78,7 +78,10 @@ pub const POSSIBLE: [(&str, &[u8]); 13] = [
 ];
 
 /// What can happen in a call that is not refused, by the branch of the rule.
-pub const EVENTS: [&str; 34] = [
+pub const EVENTS: [&str; 37] = [
+    "new with caller 0",
+    "new with caller 255",
+    "new with another caller",
     "export by location, new entry",
     "export by location, its entry",
     "export by reference",
@@ -197,6 +200,9 @@ fn event(state: &State, call: Call) -> Option<&'static str> {
         there.then(|| state.cell(w, c))
     };
     Some(match call {
+        Call::New { caller: 0, .. } => "new with caller 0",
+        Call::New { caller: 255, .. } => "new with caller 255",
+        Call::New { .. } => "new with another caller",
         Call::Bind { w, c, x } => {
             live(w, c)?;
             match (live(w, x)?, state.entry_naming(w, c)) {
@@ -230,20 +236,19 @@ fn event(state: &State, call: Call) -> Option<&'static str> {
         },
         Call::Drop { w, c } => match live(w, c)? {
             Cell::Free => return None,
-            Cell::Var => "drop of a VAR",
-            Cell::Val(_) => "drop of a VAL",
+            Cell::Var { .. } => "drop of a VAR",
+            Cell::Val { .. } => "drop of a VAL",
             Cell::Ref(_) => "drop of a REF",
             Cell::Ex(_) => "drop of an EX",
         },
         Call::Read { w, c } => match live(w, c)? {
-            Cell::Val(_) => "read of a VAL",
+            Cell::Val { .. } => "read of a VAL",
             Cell::Ref(_) => "read through a REF",
             Cell::Ex(Ex { value: Value::Known(_), .. }) => "read of a known EX",
             _ => return None,
         },
         Call::Deliver { s } => event_of_message(state, state.slots.get(usize::from(s))?.as_ref()?)?,
-        Call::Start { .. } | Call::New { .. } | Call::Set { .. } => return None,
-        Call::Ask { .. } | Call::Bound => return None,
+        Call::Start { .. } | Call::Set { .. } | Call::Ask { .. } | Call::Bound => return None,
     })
 }
 
@@ -270,7 +275,7 @@ fn event_of_message(state: &State, message: &Message) -> Option<&'static str> {
         Message::Release { .. } => "deliver Release, entry kept",
         Message::Read { owner, entry, .. } => {
             match state.end_cell(owner, state.entry(owner, entry)?.cell) {
-                Cell::Val(_) => "deliver Read, answered by a VAL",
+                Cell::Val { .. } => "deliver Read, answered by a VAL",
                 Cell::Ex(Ex { value: Value::Known(_), .. }) => {
                     "deliver Read, answered by a known EX"
                 }
@@ -460,6 +465,12 @@ impl Generator {
         }
     }
 
+    /// A new VAR of a worker, with a caller of 0 to 255. Its cell.
+    fn new_cell(&mut self, w: u8) -> Option<u8> {
+        let caller = self.caller(0);
+        self.done(Call::New { w, caller })
+    }
+
     /// Exports, by location or indirectly, and delivers. The receiver's cell.
     fn hand_over(&mut self, call: Call) -> Option<u8> {
         let s = self.done(call)?;
@@ -510,6 +521,26 @@ impl Generator {
             .map(|(_, s)| s)
             .collect();
         (!matching.is_empty()).then(|| self.random.one_of(&matching))
+    }
+
+    /// A caller: above 255 in so many of a hundred, else 0 to 255.
+    fn caller(&mut self, above_255: usize) -> u32 {
+        let byte = u32::from(self.random.byte());
+        if self.random.percent(above_255) {
+            match self.random.below(4) {
+                0 => 256,
+                1 => u32::MAX,
+                // One bit above the byte.
+                2 => (1 << (8 + self.random.below(24))) | byte,
+                _ => (self.random.number() as u32).max(256),
+            }
+        } else {
+            match self.random.below(10) {
+                0 => 0,
+                1 => 255,
+                _ => byte,
+            }
+        }
     }
 
     fn number(&mut self) -> u32 {
@@ -587,22 +618,23 @@ impl Generator {
     }
 
     fn a_new(&mut self) -> Call {
-        Call::New { w: self.worker() }
+        Call::New { w: self.worker(), caller: self.caller(10) }
     }
 
     fn a_set(&mut self) -> Call {
-        let (w, c) = self.cell_or_any(|state, w, c| state.cell(w, c) == Cell::Var);
+        let (w, c) = self.cell_or_any(|state, w, c| is_var(state.cell(w, c)));
         Call::Set { w, c, n: self.number() }
     }
 
     fn a_bind(&mut self) -> Call {
         let wants_exported = self.random.percent(50);
         let (w, x) = self.cell_or_any(|state, w, c| {
-            is_ex(state.end_cell(w, c)) && state.cells[usize::from(w)].contains(&Cell::Var)
+            let mut cells = state.cells[usize::from(w)].iter();
+            is_ex(state.end_cell(w, c)) && cells.any(|cell| is_var(*cell))
         });
         let c = self.cell(|state, owner, c| {
             let exported = state.entry_naming(owner, c).is_some();
-            owner == w && state.cell(owner, c) == Cell::Var && exported == wants_exported
+            owner == w && is_var(state.cell(owner, c)) && exported == wants_exported
         });
         let c = c.or_else(|| self.cell(|_, owner, _| owner == w));
         let c = c.map_or(0, |(_, c)| c);
@@ -678,7 +710,7 @@ impl Generator {
         let c = if self.random.percent(30) { self.edge() } else { c };
         let last = self.edge();
         match self.random.below(12) {
-            0 => Call::New { w: last },
+            0 => Call::New { w: last, caller: self.caller(50) },
             1 => {
                 let n = self.number();
                 Call::Set { w, c, n }
@@ -728,7 +760,7 @@ impl Generator {
         };
         let mut line = model::encode(frame).to_vec();
         let at = self.random.below(line.len());
-        match self.random.below(12) {
+        match self.random.below(14) {
             0 => line.clear(),
             1 => line.push(b'\r'),
             2 => line.truncate(at),
@@ -743,10 +775,11 @@ impl Generator {
                 let call = self.random.one_of(&[0, 0x0d, 0x0e, 0x0f, 0x10, 0x20, 0x80, 0xff]);
                 line[..2].copy_from_slice(format!("{call:02x}").as_bytes());
             }
-            9 | 10 => {
-                // A byte or number that is not used and not 0. Where the byte
-                // is used this is a frame, and is run as one.
-                let at = self.random.one_of(&[3, 5, 7, 9, 11, 13, 15]);
+            9..=12 => {
+                // A byte or number that is not used and not 0, mostly the second
+                // or third byte, which a new does not use. Where it is used this
+                // is a frame, and is run as one.
+                let at = self.random.one_of(&[3, 5, 5, 5, 7, 7, 7, 9, 11, 13, 15]);
                 line[at] = self.random.one_of(b"123456789abcdef");
             }
             _ => {
@@ -764,7 +797,8 @@ impl Generator {
     fn fill_cells(&mut self) {
         let w = self.worker();
         for _ in 0..CELLS + 2 {
-            if let Some(Err(Refusal::NoFreeCell)) = self.call(Call::New { w }) {
+            let caller = self.caller(0);
+            if let Some(Err(Refusal::NoFreeCell)) = self.call(Call::New { w, caller }) {
                 break;
             }
             if self.random.percent(10) {
@@ -773,6 +807,8 @@ impl Generator {
         }
         // Everything that needs a cell at that worker.
         for _ in 0..8 {
+            let caller = self.caller(50);
+            self.call(Call::New { w, caller });
             let (from, c) = self.cell_or_any(|_, owner, _| owner != w);
             self.call(Call::Export { w: from, c, to: w });
             let (from, c) =
@@ -791,12 +827,12 @@ impl Generator {
         // A few imports, so that there is an EX without an entry.
         for _ in 0..3 {
             let from = self.other_worker(w);
-            if let Some(c) = self.done(Call::New { w: from }) {
+            if let Some(c) = self.new_cell(from) {
                 self.hand_over(Call::Export { w: from, c, to: w });
             }
         }
         for _ in 0..24 {
-            let Some(c) = self.done(Call::New { w }) else {
+            let Some(c) = self.new_cell(w) else {
                 break;
             };
             let to = self.other_worker(w);
@@ -860,7 +896,7 @@ impl Generator {
                             let to = ex.owner;
                             self.call(Call::Transfer { w, c, to });
                         }
-                        Cell::Var if self.random.percent(30) => {
+                        Cell::Var { .. } if self.random.percent(30) => {
                             let n = self.number();
                             self.call(Call::Set { w, c, n });
                         }
@@ -900,7 +936,7 @@ impl Generator {
         order.dedup();
         let mut links: Vec<(u8, u8)> = Vec::new();
         let mut w = order[0];
-        let Some(mut c) = self.done(Call::New { w }) else {
+        let Some(mut c) = self.new_cell(w) else {
             return;
         };
         let origin = (w, c);
@@ -951,12 +987,12 @@ impl Generator {
             1 | 2 => self.hand_over(Call::Indirect { w, c, to }),
             // A VAR that is bound to the EX before it goes, or after.
             3 => {
-                let bound = self.done(Call::New { w })?;
+                let bound = self.new_cell(w)?;
                 self.call(Call::Bind { w, c: bound, x: c });
                 self.hand_over(Call::Indirect { w, c: bound, to })
             }
             _ => {
-                let bound = self.done(Call::New { w })?;
+                let bound = self.new_cell(w)?;
                 let there = self.hand_over(Call::Export { w, c: bound, to });
                 self.call(Call::Bind { w, c: bound, x: c });
                 there
@@ -1053,7 +1089,7 @@ impl Generator {
 
     /// A VAR or VAL of a worker, or, to be exported indirectly, an EX for it.
     fn ceiling_cell(&mut self, owner: u8, by_indirect: bool) -> Option<(u8, u8)> {
-        let c = self.done(Call::New { w: owner })?;
+        let c = self.new_cell(owner)?;
         if self.random.percent(50) {
             let n = self.number();
             self.call(Call::Set { w: owner, c, n });
@@ -1071,7 +1107,7 @@ impl Generator {
     /// an entry that is freed too early or too late shows in a cell that can or
     /// cannot be dropped.
     fn audit(&mut self) {
-        while let Some((w, c)) = self.cell(|state, w, c| state.cell(w, c) == Cell::Var) {
+        while let Some((w, c)) = self.cell(|state, w, c| is_var(state.cell(w, c))) {
             if self.full() {
                 return;
             }
@@ -1112,12 +1148,24 @@ impl Generator {
 
     // ------------------------------------------- states for the benchmark
 
+    /// A step of the benchmark. Every caller is 0, so that its inputs stay the
+    /// same and its figures can be compared.
+    fn step_of_caller_0(&mut self, step: Step) {
+        match step {
+            Step::New => {
+                let w = self.worker();
+                self.call(Call::New { w, caller: 0 });
+            }
+            _ => self.step(step),
+        }
+    }
+
     /// Starts 8 workers and fills about half of all tables.
     pub fn grow_busy(&mut self) {
         self.call(Call::Start { p: 8 });
         for _ in 0..450 {
             let step = self.choose(&GROW[..8]);
-            self.step(step);
+            self.step_of_caller_0(step);
         }
     }
 
@@ -1137,7 +1185,7 @@ impl Generator {
             } else {
                 self.choose(&CHURN[..11])
             };
-            self.step(step);
+            self.step_of_caller_0(step);
         }
     }
 
@@ -1159,6 +1207,10 @@ impl Generator {
             self.step(step);
         }
     }
+}
+
+fn is_var(cell: Cell) -> bool {
+    matches!(cell, Cell::Var { .. })
 }
 
 fn is_ex(cell: Cell) -> bool {
@@ -1328,5 +1380,38 @@ mod tests {
             coverage.add(&case(seed).coverage);
         }
         assert_eq!(coverage.gaps(), Vec::<String>::new());
+    }
+
+    /// Refusal 16 together with 3, with 12 and alone; and lines that are not
+    /// frames of new for their second or third byte alone.
+    #[test]
+    fn the_first_cases_meet_callers_above_255() {
+        let (mut with_3, mut with_12, mut alone, mut no_frames) = (0, 0, 0, 0);
+        let digits = b"0123456789abcdef";
+        for text in (1..=180).map(|seed| case(seed).text) {
+            if text.len() > LONGEST_INPUT {
+                continue;
+            }
+            let mut state = State::closed();
+            for line in text.split(|byte| *byte == b'\n') {
+                let Some(call) = model::decode(line) else {
+                    let has_digits = line.iter().all(|byte| digits.contains(byte));
+                    let is_near = line.len() == 16 && line.starts_with(b"02") && has_digits;
+                    no_frames += u32::from(is_near);
+                    continue;
+                };
+                match call {
+                    Call::New { w, caller: 256.. } if w >= state.workers => with_3 += 1,
+                    Call::New { w, caller: 256.. } if state.free_cells(w) <= state.booked(w) => {
+                        with_12 += 1;
+                    }
+                    Call::New { caller: 256.., .. } => alone += 1,
+                    _ => {}
+                }
+                state.call_with::<false>(call).ok();
+            }
+        }
+        let met = [with_3, with_12, alone, no_frames];
+        assert!(!met.contains(&0), "{met:?}");
     }
 }

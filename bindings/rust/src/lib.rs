@@ -1,16 +1,16 @@
 //! Safe functions over the Endrusp library, and a plain model to compare it
 //! with.
 //!
-//! [`run`] and [`run_into`] run the text program of document 01 in the linked
-//! library, the archive `libforeign.a`. They need the feature `linked`, which is
-//! on by default. [`model`] is the same document written a second time, plainly
-//! and apart from the library; it links nothing.
+//! [`run`] and [`run_into`] run the text program of document 01, with W-201 of
+//! document 02, in the linked library, the archive `libforeign.a`. They need the
+//! feature `linked`, which is on by default. [`model`] is the same rules written
+//! a second time, plainly and apart from the library; it links nothing.
 //!
 //! ```
 //! # #[cfg(feature = "linked")]
 //! # {
-//! // start(2), then new(0): done, and done with cell 0.
-//! let answers = endrusp::run(b"0102000000000000\n0200000000000000\n");
+//! // start(2), then new(0, 7): done, and done with cell 0.
+//! let answers = endrusp::run(b"0102000000000000\n0200000000000007\n");
 //! assert_eq!(answers, b"0000000000\n0000000000\n");
 //! # }
 //! ```

@@ -1,10 +1,12 @@
-//! A plain model of document 01, "What is being built, with exact rules".
+//! A plain model of document 01, "What is being built, with exact rules", and of
+//! what document 02 changes in it: W-201, "Charge time to callers".
 //!
-//! The model is written from the document and from nothing else, so that it
-//! can be compared with the library. It is meant to be read beside the
-//! document: every part begins with the sentence it follows, in quotation
-//! marks. Each call tests all that may refuse it, in the order of the refusal
-//! numbers, before it writes anything.
+//! The model is written from the documents and from nothing else, so that it
+//! can be compared with the library. It is meant to be read beside them: every
+//! part begins with the sentence it follows, in quotation marks, a sentence of
+//! document 02 after the number of its request. Before it writes anything, each
+//! call tests all that may refuse it, in the order of the refusal numbers; only
+//! 16 is tested before 12.
 
 use std::fmt;
 
@@ -40,15 +42,18 @@ pub const NOTHING_SENT: u32 = 64;
 
 /// "A cell is free or one of: 1 VAR, unbound; 2 VAL(n), n of 32 bits; 3
 /// REF(cell of the same worker); 4 EX(owner, entry, weight, reading or idle or
-/// known with value n, asking or not)."
+/// known with value n, asking or not)." W-201: "VAR and VAL cells carry" a
+/// caller, "a REF or EX has none of its own. Two cells that differ in caller are
+/// different cells".
 #[derive(Clone, Copy, Debug, PartialEq, Eq)]
+#[allow(missing_docs)]
 pub enum Cell {
     /// Not in use.
     Free,
-    /// Unbound.
-    Var,
-    /// A value of 32 bits.
-    Val(u32),
+    /// Unbound, with a caller, 0 to 255.
+    Var { caller: u8 },
+    /// A value of 32 bits, with a caller, 0 to 255.
+    Val { n: u32, caller: u8 },
     /// Another cell of the same worker.
     Ref(u8),
     /// An import: a reference to an entry of another worker.
@@ -128,12 +133,12 @@ pub struct State {
 // ------------------------------------------------------- calls and outcomes
 
 /// A call with its arguments, by the document's letters: w a worker, c and x
-/// cells, `to` the receiver, s a slot, n a number of 32 bits.
+/// cells, `to` the receiver, s a slot, n and `caller` numbers of 32 bits.
 #[derive(Clone, Copy, Debug, PartialEq, Eq)]
 #[allow(missing_docs)]
 pub enum Call {
     Start { p: u8 },
-    New { w: u8 },
+    New { w: u8, caller: u32 },
     Set { w: u8, c: u8, n: u32 },
     Bind { w: u8, c: u8, x: u8 },
     Export { w: u8, c: u8, to: u8 },
@@ -193,6 +198,8 @@ pub enum Refusal {
     NoSuchMessage = 14,
     /// "a read that is not ready".
     NotReady = 15,
+    /// W-201: "a caller above 255".
+    NoSuchCaller = 16,
 }
 
 impl Refusal {
@@ -382,7 +389,7 @@ impl State {
         let weight = |weight: u32| weight <= CEILING;
 
         let cells = self.cells.as_flattened().iter().all(|held| match *held {
-            Cell::Free | Cell::Var | Cell::Val(_) => true,
+            Cell::Free | Cell::Var { .. } | Cell::Val { .. } => true,
             Cell::Ref(c) => cell(c),
             Cell::Ex(ex) => worker(ex.owner) && entry(ex.entry) && weight(ex.weight),
         });
@@ -415,7 +422,7 @@ impl State {
         self.worker_numbers().all(|w| {
             let mut named = [[false; ENTRIES]; WORKERS];
             self.cells[usize::from(w)].iter().all(|cell| match *cell {
-                Cell::Free | Cell::Var | Cell::Val(_) => true,
+                Cell::Free | Cell::Var { .. } | Cell::Val { .. } => true,
                 Cell::Ref(c) => matches!(self.cell(w, c), Cell::Ex(_)),
                 Cell::Ex(ex) => {
                     let mark = &mut named[usize::from(ex.owner)][usize::from(ex.entry)];
@@ -440,7 +447,7 @@ impl State {
                 let mark = &mut named[usize::from(entry.cell)];
                 let named_before = std::mem::replace(mark, true);
                 let end_is_right = match self.end_cell(w, entry.cell) {
-                    Cell::Var | Cell::Val(_) => true,
+                    Cell::Var { .. } | Cell::Val { .. } => true,
                     Cell::Ex(ex) => self.safe(w, ex),
                     Cell::Free | Cell::Ref(_) => false,
                 };
@@ -603,6 +610,12 @@ impl State {
         if self.busy(w, c) { Err(Refusal::Busy) } else { Ok(()) }
     }
 
+    /// Refusal 16, of W-201: "a caller above 255". The caller as a cell carries
+    /// it.
+    fn test_caller(caller: u32) -> Result<u8, Refusal> {
+        u8::try_from(caller).map_err(|_| Refusal::NoSuchCaller)
+    }
+
     /// Refusal 12: "free cells at the receiver (for new, at w) do not exceed
     /// those booked".
     fn test_room(&self, w: u8) -> Result<(), Refusal> {
@@ -636,7 +649,7 @@ impl State {
         }
         match call {
             Call::Start { p } => self.start(p),
-            Call::New { w } => self.new(w),
+            Call::New { w, caller } => self.new(w, caller),
             Call::Set { w, c, n } => self.set(w, c, n),
             Call::Bind { w, c, x } => self.bind(w, c, x),
             Call::Export { w, c, to } => self.export(w, c, to),
@@ -661,36 +674,39 @@ impl State {
         Ok(Answer::Done(0))
     }
 
-    /// "new(w): lowest free cell becomes VAR. Value: cell."
+    /// "new(w): lowest free cell becomes VAR. Value: cell." W-201: "`new` takes
+    /// a caller number, 0 to 255 [..] Refusals: 16 for a caller above 255, after
+    /// 3 and before 12".
     #[allow(clippy::new_ret_no_self, clippy::wrong_self_convention)]
-    fn new(&mut self, w: u8) -> Outcome {
+    fn new(&mut self, w: u8, caller: u32) -> Outcome {
         self.test_worker(w)?;
+        let caller = State::test_caller(caller)?;
         self.test_room(w)?;
 
         let c = self.lowest_free_cell(w).ok_or(Refusal::NoFreeCell)?;
-        self.set_cell(w, c, Cell::Var);
+        self.set_cell(w, c, Cell::Var { caller });
         Ok(Answer::Done(u32::from(c)))
     }
 
-    /// "set(w, c, n): VAR becomes VAL(n)."
+    /// "set(w, c, n): VAR becomes VAL(n)." W-201: "`set` keeps" the caller.
     fn set(&mut self, w: u8, c: u8, n: u32) -> Outcome {
         self.test_worker(w)?;
-        if self.test_cell(w, c)? != Cell::Var {
+        let Cell::Var { caller } = self.test_cell(w, c)? else {
             return Err(Refusal::WrongKind);
-        }
+        };
 
-        self.set_cell(w, c, Cell::Val(n));
+        self.set_cell(w, c, Cell::Val { n, caller });
         Ok(Answer::Done(0))
     }
 
     /// "bind(w, c, x): c is a VAR, the end of x an EX; c becomes a REF to that
-    /// end."
+    /// end." W-201: "A bind loses the variable's own caller".
     fn bind(&mut self, w: u8, c: u8, x: u8) -> Outcome {
         self.test_worker(w)?;
         let cell = self.test_cell(w, c)?;
         self.test_cell(w, x)?;
         let end = self.end(w, x);
-        let (Cell::Var, Cell::Ex(ex)) = (cell, self.cell(w, end)) else {
+        let (Cell::Var { .. }, Cell::Ex(ex)) = (cell, self.cell(w, end)) else {
             return Err(Refusal::WrongKind);
         };
         if self.entry_naming(w, c).is_some() && !self.safe(w, ex) {
@@ -816,8 +832,8 @@ impl State {
         self.test_cell(w, c)?;
         let end = self.end(w, c);
         let ex = match self.cell(w, end) {
-            Cell::Val(n) => return Ok(Answer::Done(n)),
-            Cell::Var => return Ok(Answer::Unbound),
+            Cell::Val { n, .. } => return Ok(Answer::Done(n)),
+            Cell::Var { .. } => return Ok(Answer::Unbound),
             Cell::Ex(ex) => ex,
             Cell::Free | Cell::Ref(_) => unreachable!("point 2: a REF names an EX"),
         };
@@ -894,7 +910,7 @@ impl State {
         match message {
             Message::Read { owner, entry, .. } => {
                 let cell = self.live_entry(owner, entry).cell;
-                self.end_cell(owner, cell) != Cell::Var
+                !matches!(self.end_cell(owner, cell), Cell::Var { .. })
             }
             _ => true,
         }
@@ -980,11 +996,11 @@ impl State {
     /// known: becomes a Read of what it names." What the Read becomes.
     fn deliver_read(&self, reader: u8, cell: u8, owner: u8, entry: u8) -> Message {
         match self.end_cell(owner, self.live_entry(owner, entry).cell) {
-            Cell::Val(n) | Cell::Ex(Ex { value: Value::Known(n), .. }) => {
+            Cell::Val { n, .. } | Cell::Ex(Ex { value: Value::Known(n), .. }) => {
                 Message::Answer { reader, cell, n }
             }
             Cell::Ex(ex) => Message::Read { reader, cell, owner: ex.owner, entry: ex.entry },
-            Cell::Free | Cell::Var | Cell::Ref(_) => {
+            Cell::Free | Cell::Var { .. } | Cell::Ref(_) => {
                 unreachable!("points 2 and 3: the read is ready")
             }
         }
@@ -1013,10 +1029,11 @@ pub fn decode(line: &[u8]) -> Option<Call> {
     let n = u32::from_be_bytes(n);
 
     // "The bytes are the call's arguments in order, n is the number, and a byte
-    // or number not used must be 0."
+    // or number not used must be 0." W-201: the caller is "in the frame's 32-bit
+    // field [..] `new` no longer demands a zero number."
     match (call, first, second, third, n) {
         (0x01, p, 0, 0, 0) => Some(Call::Start { p }),
-        (0x02, w, 0, 0, 0) => Some(Call::New { w }),
+        (0x02, w, 0, 0, caller) => Some(Call::New { w, caller }),
         (0x03, w, c, 0, n) => Some(Call::Set { w, c, n }),
         (0x04, w, c, x, 0) => Some(Call::Bind { w, c, x }),
         (0x05, w, c, to, 0) => Some(Call::Export { w, c, to }),
@@ -1035,7 +1052,7 @@ pub fn decode(line: &[u8]) -> Option<Call> {
 pub fn encode(call: Call) -> [u8; 16] {
     let (number, [first, second, third], n) = match call {
         Call::Start { p } => (0x01, [p, 0, 0], 0),
-        Call::New { w } => (0x02, [w, 0, 0], 0),
+        Call::New { w, caller } => (0x02, [w, 0, 0], caller),
         Call::Set { w, c, n } => (0x03, [w, c, 0], n),
         Call::Bind { w, c, x } => (0x04, [w, c, x], 0),
         Call::Export { w, c, to } => (0x05, [w, c, to], 0),
@@ -1130,11 +1147,11 @@ fn eight_digits(number: u32) -> [u8; 8] {
 }
 
 impl fmt::Display for Call {
-    /// The call as the document writes it, as in `export(0, 3, 1)`.
+    /// The call with its arguments in order, as in `export(0, 3, 1)`.
     fn fmt(&self, f: &mut fmt::Formatter<'_>) -> fmt::Result {
         match *self {
             Call::Start { p } => write!(f, "start({p})"),
-            Call::New { w } => write!(f, "new({w})"),
+            Call::New { w, caller } => write!(f, "new({w}, {caller})"),
             Call::Set { w, c, n } => write!(f, "set({w}, {c}, {n})"),
             Call::Bind { w, c, x } => write!(f, "bind({w}, {c}, {x})"),
             Call::Export { w, c, to } => write!(f, "export({w}, {c}, {to})"),

@@ -50,6 +50,72 @@ fn a_whole_run() {
     assert_eq!(&out[..output.len()], output);
 }
 
+/// The caller of new: a number of 0 to 255 is in no answer, a larger one is
+/// refused.
+#[test]
+fn callers() {
+    let mut input = b"\
+0200000000000100
+0102000000000000
+0200000000000100
+02000000000000ff
+0200000000000007
+02000000ffffffff
+0200000001000000
+0202000000000007
+0202000000000100
+0200010000000007
+0200000100000007
+0300010000000005
+0900010000000000
+0500000100000000
+0b00000000000000
+0901000000000000
+0b00000000000000
+"
+    .to_vec();
+    let mut output = b"\
+0300000000
+0000000000
+1000000000
+0000000000
+0000000001
+1000000000
+1000000000
+0300000000
+0300000000
+ff00000000
+ff00000000
+0000000000
+0000000005
+0000000000
+0000000000
+4000000000
+0f00000000
+"
+    .to_vec();
+    // Cells 2 to 31, and then there is none.
+    for c in 2..32 {
+        input.extend_from_slice(format!("02000000000000{:02x}\n", 8 * c).as_bytes());
+        output.extend_from_slice(format!("00000000{c:02x}\n").as_bytes());
+    }
+    input.extend_from_slice(b"02000000000000ff\n0200000000000100\n0202000000000100\n");
+    output.extend_from_slice(b"0c00000000\n1000000000\n0300000000\n");
+    assert_eq!(run(&input), output);
+}
+
+/// A new, a set and a read, with every caller.
+#[test]
+fn every_caller_of_a_byte() {
+    for caller in 0..=255 {
+        let input = format!(
+            "0102000000000000\n02000000000000{caller:02x}\n03000000ffffffff\n0900000000000000\n"
+        );
+        let output = b"0000000000\n0000000000\n0000000000\n00ffffffff\n";
+        assert_eq!(run(input.as_bytes()), output, "caller {caller}");
+    }
+}
+
 /// 1,024 exports of one cell, delivered and kept; the 1,025th.
 #[test]
 fn the_ceiling() {

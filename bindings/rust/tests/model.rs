@@ -1,5 +1,5 @@
-//! The numbered cases of document 01, the run it prints, and the places where
-//! its words are easily misread, all on the model.
+//! The numbered cases of document 01, the run it prints, the places where its
+//! words are easily misread, and the callers of W-201, all on the model.
 
 use endrusp::model::{
     self, Answer, CEILING, CELLS, Call, Cell, ENTRIES, Entry, Ex, LONGEST_INPUT, Message, Outcome,
@@ -38,6 +38,10 @@ fn refused(state: &mut State, call: Call) -> Refusal {
     refusal
 }
 
+fn var(caller: u8) -> Cell {
+    Cell::Var { caller }
+}
+
 fn ex(state: &State, w: u8, c: u8) -> Ex {
     match state.cell(w, c) {
         Cell::Ex(ex) => ex,
@@ -48,7 +52,7 @@ fn ex(state: &State, w: u8, c: u8) -> Ex {
 /// VAR 0 of worker 0, exported to worker 1 and delivered as its cell 0.
 fn imported(p: u8) -> State {
     let mut state = started(p);
-    value(&mut state, Call::New { w: 0 });
+    value(&mut state, Call::New { w: 0, caller: 0 });
     let there = sent_and_delivered(&mut state, Call::Export { w: 0, c: 0, to: 1 });
     assert_eq!(there, 0);
     state
@@ -106,7 +110,7 @@ fn k5_of_weight_3_one_is_sent_and_two_are_kept() {
 #[test]
 fn k6_a_bind_that_would_close_a_circle_is_refused() {
     let mut state = started(2);
-    value(&mut state, Call::New { w: 1 });
+    value(&mut state, Call::New { w: 1, caller: 0 });
     assert_eq!(sent_and_delivered(&mut state, Call::Export { w: 1, c: 0, to: 0 }), 0);
     assert!(!state.safe(0, ex(&state, 0, 0)));
     assert_eq!(sent_and_delivered(&mut state, Call::Indirect { w: 0, c: 0, to: 1 }), 1);
@@ -118,7 +122,7 @@ fn k6_a_bind_that_would_close_a_circle_is_refused() {
 #[test]
 fn k7_an_exported_var_is_bound_to_a_safe_ex() {
     let mut state = imported(2);
-    let var = value(&mut state, Call::New { w: 1 });
+    let var = value(&mut state, Call::New { w: 1, caller: 0 });
     value(&mut state, Call::Export { w: 1, c: var, to: 0 });
     assert_eq!(state.call(Call::Bind { w: 1, c: var, x: 0 }), done(0));
     assert_eq!(state.cell(1, var), Cell::Ref(0));
@@ -178,6 +182,19 @@ fn an_ask_just_below_the_ceiling_gains_what_is_left() {
 
 // ------------------------------------------------------ the text program
 
+/// A run as the document prints one, frames and answers in two columns: the
+/// input and the output.
+fn columns(run: &str) -> (String, String) {
+    let mut input = String::new();
+    let mut output = String::new();
+    for line in run.lines() {
+        let (frame, answer) = line.split_once("  ").expect("two columns");
+        input += &format!("{frame}\n");
+        output += &format!("{answer}\n");
+    }
+    (input, output)
+}
+
 /// "A whole run, input then output, line for line".
 #[test]
 fn the_run_that_is_printed() {
@@ -196,13 +213,7 @@ fn the_run_that_is_printed() {
 0b00000000000000  0000000000
 0800000000000000  0000000040
 ";
-    let mut input = String::new();
-    let mut output = String::new();
-    for line in run.lines() {
-        let (frame, answer) = line.split_once("  ").expect("two columns");
-        input += &format!("{frame}\n");
-        output += &format!("{answer}\n");
-    }
+    let (input, output) = columns(run);
     assert_eq!(String::from_utf8(run_text(input.as_bytes())), Ok(output.clone()));
     // The last newline may be missing.
     assert_eq!(run_text(input.trim_end().as_bytes()), output.as_bytes());
@@ -242,7 +253,10 @@ fn lines_that_are_not_frames() {
         // A byte or number that is not used and not 0.
         "0102010000000000",
         "0102000000000001",
+        "0200010000000000",
         "0200000100000000",
+        "0200010000000007",
+        "0200000100000007",
         "0300000100000000",
         "0400000080000000",
         "0800000100000000",
@@ -263,7 +277,11 @@ fn lines_that_are_not_frames() {
 fn every_call_has_its_frame() {
     let calls = [
         (Call::Start { p: 0xa1 }, "01a1000000000000"),
-        (Call::New { w: 0xa1 }, "02a1000000000000"),
+        (Call::New { w: 0xa1, caller: 0 }, "02a1000000000000"),
+        (Call::New { w: 0, caller: 255 }, "02000000000000ff"),
+        (Call::New { w: 0, caller: 256 }, "0200000000000100"),
+        (Call::New { w: 1, caller: 0x0102_abcd }, "020100000102abcd"),
+        (Call::New { w: 0, caller: u32::MAX }, "02000000ffffffff"),
         (Call::Set { w: 1, c: 2, n: 0x0102_abcd }, "030102000102abcd"),
         (Call::Bind { w: 1, c: 2, x: 3 }, "0401020300000000"),
         (Call::Export { w: 1, c: 2, to: 3 }, "0501020300000000"),
@@ -279,6 +297,7 @@ fn every_call_has_its_frame() {
         assert_eq!(model::encode(call), frame.as_bytes());
         assert_eq!(model::decode(frame.as_bytes()), Some(call));
     }
+    assert_eq!(Call::New { w: 0, caller: 7 }.to_string(), "new(0, 7)");
 }
 
 // ------------------------------------------------- the readings of the words
@@ -287,7 +306,7 @@ fn every_call_has_its_frame() {
 fn the_closed_state_is_sound() {
     let mut state = State::closed();
     assert!(state.is_sound());
-    assert_eq!(refused(&mut state, Call::New { w: 0 }), Refusal::NoSuchWorker);
+    assert_eq!(refused(&mut state, Call::New { w: 0, caller: 0 }), Refusal::NoSuchWorker);
     assert_eq!(refused(&mut state, Call::Deliver { s: 0 }), Refusal::NoSuchMessage);
     assert_eq!(state.call(Call::Bound), done(0));
 }
@@ -314,7 +333,7 @@ fn booked_cells_are_kept_free() {
     for _ in 0..31 {
         value(&mut state, Call::Export { w: 0, c: 0, to: 1 });
     }
-    assert_eq!(refused(&mut state, Call::New { w: 1 }), Refusal::NoFreeCell);
+    assert_eq!(refused(&mut state, Call::New { w: 1, caller: 0 }), Refusal::NoFreeCell);
     // Even though each of them will join the EX that is there.
     let export = Call::Export { w: 0, c: 0, to: 1 };
     assert_eq!(refused(&mut state, export), Refusal::NoFreeCell);
@@ -327,7 +346,7 @@ fn booked_cells_are_kept_free() {
 fn a_reference_home_needs_a_free_cell_as_well() {
     let mut state = imported(2);
     for c in 1..CELLS as u32 {
-        assert_eq!(state.call(Call::New { w: 0 }), done(c));
+        assert_eq!(state.call(Call::New { w: 0, caller: 0 }), done(c));
     }
     let home = Call::Transfer { w: 1, c: 0, to: 0 };
     assert_eq!(refused(&mut state, home), Refusal::NoFreeCell);
@@ -338,7 +357,7 @@ fn full_slots_refuse_only_what_sends() {
     let mut state = started(8);
     // Worker 1 has a known EX, a reading one, an asking one and an idle one.
     for c in 0..4 {
-        value(&mut state, Call::New { w: 0 });
+        value(&mut state, Call::New { w: 0, caller: 0 });
         sent_and_delivered(&mut state, Call::Export { w: 0, c, to: 1 });
     }
     value(&mut state, Call::Set { w: 0, c: 0, n: 9 });
@@ -347,7 +366,7 @@ fn full_slots_refuse_only_what_sends() {
     value(&mut state, Call::Deliver { s });
     value(&mut state, Call::Read { w: 1, c: 1 });
     value(&mut state, Call::Ask { w: 1, c: 2 });
-    let var = value(&mut state, Call::New { w: 1 });
+    let var = value(&mut state, Call::New { w: 1, caller: 0 });
     for to in (2..8).cycle().take(SLOTS - 2) {
         value(&mut state, Call::Export { w: 0, c: 3, to });
     }
@@ -375,10 +394,10 @@ fn full_slots_refuse_only_what_sends() {
 fn entries_run_out() {
     let mut state = imported(3);
     for c in 1..ENTRIES as u8 {
-        value(&mut state, Call::New { w: 0 });
+        value(&mut state, Call::New { w: 0, caller: 0 });
         value(&mut state, Call::Export { w: 0, c, to: 1 });
     }
-    value(&mut state, Call::New { w: 0 });
+    value(&mut state, Call::New { w: 0, caller: 0 });
     let export = Call::Export { w: 0, c: 16, to: 1 };
     assert_eq!(refused(&mut state, export), Refusal::NoFreeEntry);
     // A cell that has its entry needs none.
@@ -392,7 +411,7 @@ fn whatever_a_live_entry_names_is_busy() {
     value(&mut state, Call::Set { w: 0, c: 0, n: 1 });
     assert_eq!(refused(&mut state, Call::Drop { w: 0, c: 0 }), Refusal::Busy);
     // A REF that an entry names, and the EX that the REF names.
-    let var = value(&mut state, Call::New { w: 1 });
+    let var = value(&mut state, Call::New { w: 1, caller: 0 });
     value(&mut state, Call::Export { w: 1, c: var, to: 0 });
     value(&mut state, Call::Bind { w: 1, c: var, x: 0 });
     assert_eq!(refused(&mut state, Call::Drop { w: 1, c: var }), Refusal::Busy);
@@ -403,7 +422,7 @@ fn whatever_a_live_entry_names_is_busy() {
 #[test]
 fn an_entry_that_is_there_keeps_its_mark() {
     let mut state = started(3);
-    value(&mut state, Call::New { w: 1 });
+    value(&mut state, Call::New { w: 1, caller: 0 });
     sent_and_delivered(&mut state, Call::Export { w: 1, c: 0, to: 0 });
     value(&mut state, Call::Indirect { w: 0, c: 0, to: 2 });
     value(&mut state, Call::Indirect { w: 0, c: 0, to: 2 });
@@ -433,16 +452,304 @@ fn a_read_goes_along_a_chain_and_back_at_once() {
     assert_eq!(state.call(Call::Bound), done(0));
 }
 
+// ------------------------------------------------------ the callers of W-201
+
+/// "`new` takes a caller number, 0 to 255", and the VAR carries it.
+#[test]
+fn new_takes_every_caller_of_a_byte() {
+    for caller in 0..=255 {
+        let mut state = started(2);
+        assert_eq!(state.call(Call::New { w: 1, caller: u32::from(caller) }), done(0));
+        let mut expected = started(2);
+        expected.cells[1][0] = var(caller);
+        assert_eq!(state, expected);
+    }
+    let mut state = started(1);
+    assert_eq!(state.call(Call::New { w: 0, caller: 255 }), done(0));
+    assert_eq!(state.call(Call::New { w: 0, caller: 0 }), done(1));
+    assert_eq!(state.cells[0][..3], [var(255), var(0), Cell::Free]);
+}
+
+/// "16 for a caller above 255".
+#[test]
+fn new_takes_no_caller_above_255() {
+    let mut state = imported(2);
+    for caller in [256, 257, 511, 512, 65_535, 65_536, 1 << 24, 1 << 31, u32::MAX] {
+        let new = Call::New { w: 0, caller };
+        assert_eq!(refused(&mut state, new), Refusal::NoSuchCaller, "{new}");
+    }
+    assert_eq!(Refusal::NoSuchCaller.number(), 16);
+}
+
+/// "after 3 and before 12".
+#[test]
+fn a_caller_above_255_is_refused_after_3_and_before_12() {
+    let good = |w| Call::New { w, caller: 255 };
+    let bad = |w| Call::New { w, caller: 256 };
+    let worst = |w| Call::New { w, caller: u32::MAX };
+
+    // 3 and 16.
+    let mut state = State::closed();
+    assert_eq!(refused(&mut state, bad(0)), Refusal::NoSuchWorker);
+    let mut state = started(2);
+    for w in [2, 7, 8, 255] {
+        assert_eq!(refused(&mut state, bad(w)), Refusal::NoSuchWorker);
+        assert_eq!(refused(&mut state, worst(w)), Refusal::NoSuchWorker);
+    }
+
+    // 16 and 12: every cell of worker 0 is in use.
+    for c in 0..CELLS as u32 {
+        assert_eq!(state.call(good(0)), done(c));
+    }
+    assert_eq!(refused(&mut state, good(0)), Refusal::NoFreeCell);
+    assert_eq!(refused(&mut state, bad(0)), Refusal::NoSuchCaller);
+    assert_eq!(refused(&mut state, worst(0)), Refusal::NoSuchCaller);
+    assert_eq!(refused(&mut state, bad(1)), Refusal::NoSuchCaller);
+    // 3 and 16 and 12.
+    assert_eq!(refused(&mut state, bad(2)), Refusal::NoSuchWorker);
+
+    // 16 and 12: every free cell of worker 1 is booked.
+    let mut state = imported(2);
+    for _ in 0..31 {
+        value(&mut state, Call::Export { w: 0, c: 0, to: 1 });
+    }
+    assert_eq!(refused(&mut state, good(1)), Refusal::NoFreeCell);
+    assert_eq!(refused(&mut state, bad(1)), Refusal::NoSuchCaller);
+
+    // 2 and 16, and with 3: a REF that names a VAR.
+    let mut state = started(1);
+    state.cells[0][..2].copy_from_slice(&[var(7), Cell::Ref(0)]);
+    assert_eq!(refused(&mut state, good(0)), Refusal::NotSound);
+    assert_eq!(refused(&mut state, bad(0)), Refusal::NotSound);
+    assert_eq!(refused(&mut state, worst(1)), Refusal::NotSound);
+}
+
+/// "`set` keeps it".
+#[test]
+fn set_keeps_the_caller() {
+    for caller in [0, 1, 7, 254, 255] {
+        for n in [0, 1, 255, 256, u32::MAX] {
+            let mut state = started(1);
+            value(&mut state, Call::New { w: 0, caller: u32::from(caller) });
+            assert_eq!(state.call(Call::Set { w: 0, c: 0, n }), done(0));
+            let mut expected = started(1);
+            expected.cells[0][0] = Cell::Val { n, caller };
+            assert_eq!(state, expected);
+            assert_eq!(state.call(Call::Read { w: 0, c: 0 }), done(n));
+        }
+    }
+}
+
+/// "A bind loses the variable's own caller", and "a REF or EX has none of its
+/// own".
+#[test]
+fn a_bind_loses_the_caller() {
+    // VAR 1 of worker 1, exported or not, with a caller.
+    let with = |caller, exported| {
+        let mut state = imported(2);
+        assert_eq!(value(&mut state, Call::New { w: 1, caller }), 1);
+        if exported {
+            value(&mut state, Call::Export { w: 1, c: 1, to: 0 });
+        }
+        state
+    };
+    for exported in [false, true] {
+        let (mut one, mut other) = (with(7, exported), with(255, exported));
+        assert_ne!(one, other);
+        assert_eq!(one.call(Call::Bind { w: 1, c: 1, x: 0 }), done(0));
+        assert_eq!(other.call(Call::Bind { w: 1, c: 1, x: 0 }), done(0));
+        assert_eq!(one.cell(1, 1), Cell::Ref(0));
+        assert_eq!(one, other);
+    }
+    // The next VAR in that cell has the caller of its own new.
+    let mut state = with(7, false);
+    value(&mut state, Call::Bind { w: 1, c: 1, x: 0 });
+    assert_eq!(state.call(Call::Drop { w: 1, c: 1 }), done(64));
+    assert_eq!(state.cell(1, 1), Cell::Free);
+    assert_eq!(state.call(Call::New { w: 1, caller: 9 }), done(1));
+    assert_eq!(state.cell(1, 1), var(9));
+    // So it is after a VAR and after a VAL.
+    value(&mut state, Call::Drop { w: 1, c: 1 });
+    assert_eq!(state.call(Call::New { w: 1, caller: 0 }), done(1));
+    assert_eq!(state.cell(1, 1), var(0));
+    value(&mut state, Call::Set { w: 1, c: 1, n: 3 });
+    value(&mut state, Call::Drop { w: 1, c: 1 });
+    assert_eq!(state.call(Call::New { w: 1, caller: 255 }), done(1));
+    assert_eq!(state.cell(1, 1), var(255));
+}
+
+/// A bind that is refused leaves the VAR its caller.
+#[test]
+fn a_refused_bind_keeps_the_caller() {
+    // As in K6.
+    let mut state = started(2);
+    value(&mut state, Call::New { w: 1, caller: 7 });
+    sent_and_delivered(&mut state, Call::Export { w: 1, c: 0, to: 0 });
+    sent_and_delivered(&mut state, Call::Indirect { w: 0, c: 0, to: 1 });
+    assert_eq!(refused(&mut state, Call::Bind { w: 1, c: 0, x: 1 }), Refusal::Unsafe);
+    assert_eq!(refused(&mut state, Call::Bind { w: 1, c: 0, x: 0 }), Refusal::WrongKind);
+    assert_eq!(state.cell(1, 0), var(7));
+}
+
+/// All that happens around a VAR and a VAL leaves their callers as they were.
+#[test]
+fn other_calls_leave_callers_alone() {
+    let mut state = started(3);
+    assert_eq!(state.call(Call::New { w: 0, caller: 7 }), done(0));
+    assert_eq!(state.call(Call::New { w: 0, caller: 8 }), done(1));
+    assert_eq!(state.call(Call::Set { w: 0, c: 1, n: 5 }), done(0));
+    assert_eq!(state.call(Call::New { w: 0, caller: 9 }), done(2));
+    let calls = [
+        (Call::Export { w: 0, c: 0, to: 1 }, done(0)),
+        (Call::Export { w: 0, c: 1, to: 1 }, done(1)),
+        (Call::Deliver { s: 0 }, done(0)),
+        (Call::Deliver { s: 1 }, done(1)),
+        (Call::Read { w: 0, c: 0 }, Ok(Answer::Unbound)),
+        (Call::Read { w: 0, c: 1 }, done(5)),
+        // A Read of the VAR, which stays, and one of the VAL with its Answer.
+        (Call::Read { w: 1, c: 0 }, Ok(Answer::Sent(0))),
+        (Call::Deliver { s: 0 }, Err(Refusal::NotReady)),
+        (Call::Read { w: 1, c: 1 }, Ok(Answer::Sent(1))),
+        (Call::Deliver { s: 1 }, done(0)),
+        (Call::Deliver { s: 1 }, done(1)),
+        (Call::Read { w: 1, c: 1 }, done(5)),
+        // An Ask and its Supply.
+        (Call::Ask { w: 1, c: 0 }, Ok(Answer::Sent(1))),
+        (Call::Deliver { s: 1 }, done(0)),
+        (Call::Deliver { s: 1 }, done(0)),
+        // By reference to worker 2, and home from there.
+        (Call::Export { w: 1, c: 0, to: 2 }, done(1)),
+        (Call::Deliver { s: 1 }, done(0)),
+        (Call::Transfer { w: 2, c: 0, to: 0 }, done(1)),
+        (Call::Deliver { s: 1 }, done(0)),
+        // Indirectly to worker 2, and released there.
+        (Call::Indirect { w: 1, c: 1, to: 2 }, done(1)),
+        (Call::Deliver { s: 1 }, done(0)),
+        (Call::Drop { w: 2, c: 0 }, done(1)),
+        (Call::Deliver { s: 1 }, done(0)),
+        // A REF to the EX of the VAR.
+        (Call::New { w: 1, caller: 3 }, done(2)),
+        (Call::Bind { w: 1, c: 2, x: 0 }, done(0)),
+        (Call::Drop { w: 1, c: 2 }, done(64)),
+        // The EX of the VAL goes to worker 2.
+        (Call::Transfer { w: 1, c: 1, to: 2 }, done(1)),
+        (Call::Deliver { s: 1 }, done(0)),
+        // Another cell of the same worker.
+        (Call::Set { w: 0, c: 2, n: 6 }, done(0)),
+        (Call::Drop { w: 0, c: 2 }, done(64)),
+        (Call::New { w: 0, caller: 255 }, done(2)),
+        // What is refused.
+        (Call::New { w: 0, caller: 256 }, Err(Refusal::NoSuchCaller)),
+        (Call::Set { w: 0, c: 1, n: 9 }, Err(Refusal::WrongKind)),
+        (Call::Bind { w: 0, c: 0, x: 1 }, Err(Refusal::WrongKind)),
+        (Call::Drop { w: 0, c: 0 }, Err(Refusal::Busy)),
+        // One Read and two live entries: E + 1.
+        (Call::Bound, done(3)),
+    ];
+    for (number, (call, outcome)) in calls.into_iter().enumerate() {
+        assert_eq!(state.call(call), outcome, "call {number}, {call}");
+        let carried = [state.cell(0, 0), state.cell(0, 1)];
+        assert_eq!(carried, [var(7), Cell::Val { n: 5, caller: 8 }], "call {number}, {call}");
+    }
+    // The VAR is set at last, and its Read is answered.
+    assert_eq!(state.call(Call::Set { w: 0, c: 0, n: u32::MAX }), done(0));
+    for s in [0, 0] {
+        assert_eq!(state.call(Call::Deliver { s }), done(0));
+        assert_eq!(state.cell(0, 0), Cell::Val { n: u32::MAX, caller: 7 });
+    }
+    assert_eq!(state.call(Call::Read { w: 1, c: 0 }), done(u32::MAX));
+}
+
+/// "Two cells that differ in caller are different cells, so every statement
+/// about the state reads the wider record."
+#[test]
+fn states_that_differ_in_one_caller_differ() {
+    let state = imported(2);
+    for (here, there) in [
+        (var(7), var(8)),
+        (var(0), var(255)),
+        (Cell::Val { n: 5, caller: 7 }, Cell::Val { n: 5, caller: 8 }),
+        (Cell::Val { n: 7, caller: 8 }, Cell::Val { n: 8, caller: 7 }),
+    ] {
+        assert_ne!(here, there);
+        let (mut one, mut other) = (state.clone(), state.clone());
+        one.cells[1][31] = here;
+        other.cells[1][31] = there;
+        assert!(one.is_sound() && other.is_sound());
+        assert_ne!(one, other);
+        other.cells[1][31] = here;
+        assert_eq!(one, other);
+    }
+}
+
+/// "A read is ready unless the end of its entry's cell is a VAR", whoever its
+/// caller is.
+#[test]
+fn ready_does_not_depend_on_the_caller() {
+    for caller in [0, 7, 255] {
+        let mut state = started(2);
+        value(&mut state, Call::New { w: 0, caller });
+        sent_and_delivered(&mut state, Call::Export { w: 0, c: 0, to: 1 });
+        assert_eq!(state.call(Call::Read { w: 0, c: 0 }), Ok(Answer::Unbound));
+        assert_eq!(state.call(Call::Read { w: 1, c: 0 }), Ok(Answer::Sent(0)));
+        let read = Message::Read { reader: 1, cell: 0, owner: 0, entry: 0 };
+        assert_eq!(state.slots[0], Some(read));
+        assert!(!state.ready(read));
+        assert_eq!(refused(&mut state, Call::Deliver { s: 0 }), Refusal::NotReady);
+
+        value(&mut state, Call::Set { w: 0, c: 0, n: 5 });
+        assert!(state.ready(read));
+        assert_eq!(state.call(Call::Deliver { s: 0 }), done(0));
+        assert_eq!(state.slots[0], Some(Message::Answer { reader: 1, cell: 0, n: 5 }));
+    }
+}
+
+/// Frames of new with numbers: cells and refusals, 16 printed as 10.
+#[test]
+fn callers_in_a_text() {
+    let mut run = "\
+0200000000000100  0300000000
+0102000000000000  0000000000
+0200000000000100  1000000000
+02000000000000ff  0000000000
+0200000000000007  0000000001
+02000000ffffffff  1000000000
+0200000001000000  1000000000
+0202000000000007  0300000000
+0202000000000100  0300000000
+0200010000000007  ff00000000
+0200000100000007  ff00000000
+02000000000000FF  ff00000000
+0300010000000005  0000000000
+0900010000000000  0000000005
+0900000000000000  4200000000
+"
+    .to_string();
+    // Cells 2 to 31, and then there is none.
+    for c in 2..32 {
+        run += &format!("02000000000000{c:02x}  00000000{c:02x}\n");
+    }
+    run += "\
+0200000000000000  0c00000000
+02000000000000ff  0c00000000
+0200000000000100  1000000000
+0202000000000100  0300000000
+0201000000000008  0000000000
+";
+    let (input, output) = columns(&run);
+    assert_eq!(String::from_utf8(run_text(input.as_bytes())), Ok(output));
+}
+
 // ------------------------------------------------------------------ soundness
 
 /// A sound state with one of everything, and states that each break a point.
 #[test]
 fn the_six_points() {
     let mut sound = imported(3);
-    value(&mut sound, Call::New { w: 1 });
+    value(&mut sound, Call::New { w: 1, caller: 0 });
     value(&mut sound, Call::Bind { w: 1, c: 1, x: 0 });
     sent_and_delivered(&mut sound, Call::Indirect { w: 1, c: 0, to: 2 });
-    value(&mut sound, Call::New { w: 0 });
+    value(&mut sound, Call::New { w: 0, caller: 0 });
     value(&mut sound, Call::Export { w: 0, c: 1, to: 2 });
     value(&mut sound, Call::Read { w: 1, c: 0 });
     value(&mut sound, Call::Ask { w: 2, c: 0 });
@@ -456,7 +763,9 @@ fn the_six_points() {
         break_it(&mut state);
         assert_eq!(state.first_broken_point(), point);
         for call in [
-            Call::New { w: 0 },
+            Call::New { w: 0, caller: 0 },
+            Call::New { w: 0, caller: 256 },
+            Call::New { w: 9, caller: 256 },
             Call::Set { w: 0, c: 0, n: 1 },
             Call::Bind { w: 9, c: 0, x: 0 },
             Call::Export { w: 0, c: 0, to: 0 },
@@ -477,7 +786,7 @@ fn the_six_points() {
     // 1: numbers.
     broken(1, &|state| state.workers = 9);
     broken(1, &|state| state.workers = 2);
-    broken(1, &|state| state.cells[3][0] = Cell::Var);
+    broken(1, &|state| state.cells[3][0] = var(0));
     broken(1, &|state| state.entries[3][0] = Some(entry));
     broken(1, &|state| state.cells[1][1] = Cell::Ref(32));
     broken(1, &|state| state.cells[1][0] = Cell::Ex(Ex { owner: 3, ..at_1 }));
@@ -559,7 +868,7 @@ fn the_six_points() {
     });
 
     // 6: bookings.
-    broken(6, &|state| state.cells[2][1..].fill(Cell::Var));
+    broken(6, &|state| state.cells[2][1..].fill(var(0)));
 }
 
 /// A reader far along a chain: an entry reached by following is right, one that
@@ -568,7 +877,7 @@ fn the_six_points() {
 fn a_read_names_an_entry_on_the_way() {
     let mut state = imported(3);
     sent_and_delivered(&mut state, Call::Indirect { w: 1, c: 0, to: 2 });
-    value(&mut state, Call::New { w: 0 });
+    value(&mut state, Call::New { w: 0, caller: 0 });
     value(&mut state, Call::Export { w: 0, c: 1, to: 1 });
     let s = usize::from(value(&mut state, Call::Read { w: 2, c: 0 }));
     let read = |owner, entry| Some(Message::Read { reader: 2, cell: 0, owner, entry });

@@ -27,7 +27,7 @@ use Rattle.rules.specs.Calls.{bound, B}
 use Rattle.rules.specs.Deliver.{deliver}
 use Rattle.states.specs.Machines.{Sized}
 use Rattle.rules.specs.Step.{isStart, step, drained, successes, Reached, begun, after}
-use Rattle.rules.specs.Statements.{messageNames, ComesToAnEnd, holdsReady, AtRest, readOfUnbound, KnownWith, KeepsNaming, KeepsContext}
+use Rattle.rules.specs.Statements.{messageNames, ComesToAnEnd, holdsReady, AtRest, readOfUnbound, KnownWith, KeepsNaming, KeepsCallers, KeepsContext}
 use Rattle.rules.proofs.Eight.{demand-3-of-eight, calls-keep-sound-of-eight}
 use Rattle.quiet.proofs.start.Reads as start-contract
 use Rattle.quiet.proofs.new.Reads as new-contract
@@ -50,7 +50,7 @@ Meets {A} {R} {E} post a r = (e : E) × post a r e
 -- r is a reply to the call in the state s: it meets the contract of the call's own function, or that of `step`
 pub data Replies (s : State) : Call → Reply → Type 0 where
   by-start : (p : ℕ) (r : Reply) → Meets (start-contract.Post tt) (p, tt) r → Replies s (Start p) r
-  by-new : (w : ℕ) (r : Reply) → Meets (new-contract.Post tt) (s, (w, tt)) r → Replies s (New w) r
+  by-new : (w caller : ℕ) (r : Reply) → Meets (new-contract.Post tt) (s, (w, (caller, tt))) r → Replies s (New w caller) r
   by-set : (w c n : ℕ) (r : Reply) → Meets (set-contract.Post tt) (s, (w, (c, (n, tt)))) r → Replies s (Set w c n) r
   by-bind : (w c x : ℕ) (r : Reply) → Meets (bind-contract.Post tt) (s, (w, (c, (x, tt)))) r → Replies s (Bind w c x) r
   by-export : (w c to : ℕ) (r : Reply) → Meets (export-contract.Post tt) (s, (w, (c, (to, tt)))) r → Replies s (Export w c to) r
@@ -67,7 +67,7 @@ pub data Replies (s : State) : Call → Reply → Type 0 where
 pub reply-is : (s : State) (q : Call) (r : Reply) → Replies s q r → r ≡ reply (step eight (tables s) q)
 unfolding step
 reply-is s q r (by-start p x m) = m .1
-reply-is s q r (by-new w x m) = m .1
+reply-is s q r (by-new w caller x m) = m .1
 reply-is s q r (by-set w c n x m) = m .1
 reply-is s q r (by-bind w c y x m) = m .1
 reply-is s q r (by-export w c to x m) = m .1
@@ -98,7 +98,7 @@ pub record Taken (s : State) (k : ℕ) (t : State) : Type 0 where
   pub replies : Replies s (Deliver k) answer
   pub leaves : answer .state ≡ t
 
--- what is promised of such a state: demand 3 and that a reference keeps its context, B being what `bound` answers
+-- what is promised of such a state: demand 3, that a reference keeps its context and a context its caller, B being what `bound` answers
 pub record Promised (s : State) : Type 0 where
   pub is-sound : sound eight (tables s) ≡ true
   pub weights : (w e : ℕ) → entryWeight (entry eight (tables s) w e) ≡ held eight (tables s) w e
@@ -124,6 +124,7 @@ pub record Promised (s : State) : Type 0 where
   pub reference-keeps-context : (q : Call) → isStart q ≡ false → (r : Reply) → Replies s q r
       → (o e : ℕ) → isLive (entry eight (tables s) o e) ≡ true → isLive (entry eight (tables (r .state)) o e) ≡ true
       → KeepsContext eight (tables s) (tables (r .state)) o e
+  pub callers-kept : (q : Call) → isStart q ≡ false → (r : Reply) → Replies s q r → KeepsCallers eight (tables s) (tables (r .state))
 
 -- ---- replies are the rules' results
 next-is : (s : State) (q : Call) (r : Reply) → Replies s q r → tables (r .state) ≡ step eight (tables s) q .after
@@ -240,6 +241,7 @@ promised s g =
           λ q n x m o e live.
           subst (λ (t : Tables). isLive (entry eight t o e) ≡ true → KeepsContext eight (tables s) t o e) (sym (next-is s q x m))
           (D .reference-keeps-context (tables s) r q n o e live);
+      callers-kept = λ q n x m. subst (KeepsCallers eight (tables s)) (sym (next-is s q x m)) (D .callers-kept (tables s) r q n);
     }
 
 -- ---- and of any sound state of the machine's sizes: whatever the call, the state in its reply is sound

@@ -25,7 +25,7 @@ pub fn step(s: State, q: Call) -> Reply
 {
     match q {
         Call::Start { p } => start(p),
-        Call::New { w } => new(s, w),
+        Call::New { w, caller } => new(s, w, caller),
         Call::Set { w, c, n } => set(s, w, c, n),
         Call::Bind { w, c, x } => bind(s, w, c, x),
         Call::Export { w, c, to } => export(s, w, c, to),

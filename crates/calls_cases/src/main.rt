@@ -43,11 +43,11 @@ fn write_bytes(name: &[u8], a: u8, b: u8, c: u8) {
 
 // Worker 0: a VAR, a VAL and an unsafe EX that are exported, a VAR and a VAL that are not.
 fn cells_of_0(s: State) -> State {
-    let mut t = put_cell(s, 0, 0, Kind::Var);
-    t = put_cell(t, 0, 1, Kind::Val(7));
+    let mut t = put_cell(s, 0, 0, Kind::Var { caller: 0 });
+    t = put_cell(t, 0, 1, Kind::Val { n: 7, caller: 0 });
     t = put_cell(t, 0, 2, idle(1, 0, 100));
-    t = put_cell(t, 0, 3, Kind::Var);
-    put_cell(t, 0, 4, Kind::Val(9))
+    t = put_cell(t, 0, 3, Kind::Var { caller: 0 });
+    put_cell(t, 0, 4, Kind::Val { n: 9, caller: 0 })
 }
 
 // Worker 1: a safe EX, a REF to it, a known EX, an exported VAR and one that is not, an EX unsafe by its taint, a VAL.
@@ -55,10 +55,10 @@ fn cells_of_1(s: State) -> State {
     let mut t = put_cell(s, 1, 0, idle(0, 0, 1000));
     t = put_cell(t, 1, 1, Kind::Ref(0));
     t = put_cell(t, 1, 2, known(0, 1, 3, 7));
-    t = put_cell(t, 1, 3, Kind::Var);
-    t = put_cell(t, 1, 4, Kind::Var);
+    t = put_cell(t, 1, 3, Kind::Var { caller: 0 });
+    t = put_cell(t, 1, 4, Kind::Var { caller: 0 });
     t = put_cell(t, 1, 5, idle(0, 2, 1));
-    put_cell(t, 1, 6, Kind::Val(5))
+    put_cell(t, 1, 6, Kind::Val { n: 5, caller: 0 })
 }
 
 // Worker 2: a reading EX, an asking one, a safe one that is exported, a VAR. Worker 3: two EX.
@@ -66,7 +66,7 @@ fn cells_of_2_and_3(s: State) -> State {
     let mut t = put_cell(s, 2, 0, ex(0, 0, 500, Status::Reading, false));
     t = put_cell(t, 2, 1, ex(0, 1, 200, Status::Idle, true));
     t = put_cell(t, 2, 2, idle(1, 0, 50));
-    t = put_cell(t, 2, 3, Kind::Var);
+    t = put_cell(t, 2, 3, Kind::Var { caller: 0 });
     t = put_cell(t, 3, 0, idle(2, 0, 1));
     put_cell(t, 3, 1, idle(0, 0, 10))
 }
@@ -105,7 +105,7 @@ fn crowd(s: State, w: u8, from: u8, below: u8) -> State {
     io::write_all(1, b"\n");
     let mut t = s;
     for c in from..below {
-        t = put_cell(t, w, c, Kind::Var);
+        t = put_cell(t, w, c, Kind::Var { caller: 0 });
     }
     t
 }
@@ -126,11 +126,11 @@ fn fill_slots(s: State) -> State {
 fn full_entries() -> State {
     let mut s = base();
     io::write_all(1, b"full-entries\n");
-    s = put_cell(s, 0, 16, Kind::Var);
+    s = put_cell(s, 0, 16, Kind::Var { caller: 0 });
     s = put_cell(s, 0, 17, idle(1, 1, 5));
     s = put_entry(s, 1, 1, live(4, 5));
     for e in 3..16u8 {
-        s = put_cell(s, 0, e, Kind::Var);
+        s = put_cell(s, 0, e, Kind::Var { caller: 0 });
         s = put_entry(s, 0, e, live(e, 1));
         s = put_cell(s, 3, e, idle(0, e, 1));
     }
@@ -191,7 +191,7 @@ fn start(p: u8) -> State {
 }
 
 fn new(s: State, w: u8) -> State {
-    show(b"new", w, 0, 0, quiet::new(s, w))
+    show(b"new", w, 0, 0, quiet::new(s, w, 0))
 }
 
 fn set(s: State, w: u8, c: u8, n: u32) -> State {
@@ -932,7 +932,7 @@ fn bound_of_each() {
 // ---- step
 
 fn steps_at_cells() {
-    let mut s = step(base(), Call::New { w: 0 });
+    let mut s = step(base(), Call::New { w: 0, caller: 0 });
     s = step(s, Call::Set { w: 0, c: 5, n: 33 });
     s = step(s, Call::ReadCell { w: 0, c: 5 });
     s = step(s, Call::Bind { w: 1, c: 4, x: 2 });

@@ -48,8 +48,8 @@ no-weight 𝓜 = le-leb 0 (𝓜 .ceiling) (omega arith)
 module _ (𝓜 : Machine) (s : Tables) where
   kind-weight : (k : Kind) → kindInRange 𝓜 s k ≡ true → leb (exWeight k) (𝓜 .ceiling) ≡ true
   kind-weight Free h = no-weight 𝓜
-  kind-weight Var h = no-weight 𝓜
-  kind-weight (Val n) h = no-weight 𝓜
+  kind-weight (Var caller) h = no-weight 𝓜
+  kind-weight (Val n caller) h = no-weight 𝓜
   kind-weight (Ref c) h = no-weight 𝓜
   kind-weight (Ex o e n st a) h = and-r (workerIn 𝓜 s o && entryIn 𝓜 s e) (weightIn 𝓜 s n) h
 

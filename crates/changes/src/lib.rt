@@ -1,13 +1,14 @@
 // What each call but deliver does where it is not refused: its answer and what it changes, from what is looked up; and the state after any call.
-ghost use Prim.Native.Nat.{_≤_};
+ghost use Prim.Native.Nat.{_≤_, min};
 ghost use mathlib.Core.Path.{_≡_};
+ghost use Rattle.tables.specs.declared.Kind.the-variants.{Var};
 ghost use Rattle.tables.specs.declared.Change.the-variants.{Nothing, OfCell, OfCellAndSlot, OfEntryAndSlot};
 ghost use Rattle.tables.specs.Machine.{Tables, eight, tables, state};
 ghost use Rattle.tables.specs.Parts.{entryWeight};
 ghost use Rattle.tables.specs.Look.{changed};
 ghost use Rattle.rules.specs.Answers.{made, reply};
 ghost use Rattle.rules.specs.Refusals.{entryToUse, used};
-ghost use Rattle.rules.specs.Calls.{allFree, gains, keeps, sends, sendsWhole, releases, costs, B};
+ghost use Rattle.rules.specs.Calls.{allFree, valued, gains, keeps, sends, sendsWhole, releases, costs, B};
 ghost use Rattle.rules.specs.Calls.{byLocation, byReference, exportEnd, transferred, dropped, readEx, readAt, askEx, askAt};
 ghost use Rattle.changes.specs.BelowCeiling.{added};
 use tables::ALL_CELLS;
@@ -23,6 +24,7 @@ use tables::EntryTable;
 use tables::FIRST_WEIGHT;
 use tables::Holding;
 use tables::Kind;
+use tables::LAST_CALLER;
 use tables::Message;
 use tables::Outcome;
 use tables::Reply;
@@ -174,6 +176,35 @@ pub fn replied(s: State, d: Effect) -> Reply
     Reply {
         outcome: outcome,
         state: next,
+    }
+}
+
+// ---- new and set
+
+// A variable of this caller; of the last one, where the caller is above it: that is refused, and the answer is not used.
+pub fn variable(caller: u32) -> Kind
+    ensures { λ r. ⌜ r ≡ Var (min caller 255) ⌝ }
+{
+    if LAST_CALLER < caller {
+        return Kind::Var {
+            caller: LAST_CALLER as u8,
+        };
+    }
+    Kind::Var {
+        caller: caller as u8,
+    }
+}
+
+// A VAR gets the value n and keeps its caller.
+pub fn valued(n: u32, k: Kind) -> Kind
+    ensures { λ r. ⌜ r ≡ valued n k ⌝ }
+{
+    match k {
+        Kind::Free => k,
+        Kind::Var { caller } => Kind::Val { n, caller },
+        Kind::Val { .. } => k,
+        Kind::Ref(_) => k,
+        Kind::Ex { .. } => k,
     }
 }
 
@@ -398,8 +429,8 @@ pub fn read_at(w: u8, x: u8, k: Kind, slot: u8) -> Effect
 {
     match k {
         Kind::Free => unchanged(Outcome::Unbound),
-        Kind::Var => unchanged(Outcome::Unbound),
-        Kind::Val(n) => unchanged(Outcome::Done(n)),
+        Kind::Var { .. } => unchanged(Outcome::Unbound),
+        Kind::Val { n, .. } => unchanged(Outcome::Done(n)),
         Kind::Ref(_) => unchanged(Outcome::Unbound),
         Kind::Ex {
             owner,

@@ -213,15 +213,15 @@ fn read_on_ex(r: u8, c: u8, o: u8, e: u8, st: Status) -> Message
 
 // What a Read m for the cell c of worker r becomes at the end k.
 fn read_on(r: u8, c: u8, m: Message, k: Kind) -> Message
-    ensures { λ n. ⌜ n ≡ readOn r c m k ⌝ }
+    ensures { λ next. ⌜ next ≡ readOn r c m k ⌝ }
 {
     match k {
         Kind::Free => m,
-        Kind::Var => m,
-        Kind::Val(v) => Message::Answer {
+        Kind::Var { .. } => m,
+        Kind::Val { n, .. } => Message::Answer {
             reader: r,
             cell: c,
-            n: v,
+            n: n,
         },
         Kind::Ref(_) => m,
         Kind::Ex {

@@ -116,7 +116,7 @@ fn frame_of(f: Fields) -> Decoded
     let n = f.n;
     match call {
         1 => uses_only(f, 1, false, Call::Start { p: a }),
-        2 => uses_only(f, 1, false, Call::New { w: a }),
+        2 => uses_only(f, 1, true, Call::New { w: a, caller: n }),
         3 => uses_only(f, 2, true, Call::Set { w: a, c: b, n }),
         4 => uses_only(f, 3, false, Call::Bind { w: a, c: b, x: c }),
         5 => uses_only(f, 3, false, Call::Export { w: a, c: b, to: c }),
@@ -178,6 +178,7 @@ fn refusal_number(why: Refusal) -> u8
         Refusal::NoSlot => 13,
         Refusal::NoMessage => 14,
         Refusal::NotReady => 15,
+        Refusal::NoCaller => 16,
     }
 }
 

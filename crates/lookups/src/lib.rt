@@ -157,8 +157,8 @@ pub fn is_safe(entries: EntryTable, w: u8, k: Kind) -> bool
 {
     match k {
         Kind::Free => false,
-        Kind::Var => false,
-        Kind::Val(_) => false,
+        Kind::Var { .. } => false,
+        Kind::Val { .. } => false,
         Kind::Ref(_) => false,
         Kind::Ex { owner, entry, .. } => {
             both(

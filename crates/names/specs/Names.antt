@@ -22,16 +22,16 @@ use Rattle.places.specs.Places.{namesPlace, entryThere}
 -- a cell names what it may: `there` is what a REF names, x what an EX names, and so many EX name that entry
 abbrev pub cellNamesSeen : ℕ → Kind → Holding → ℕ → Kind → Bool
 cellNamesSeen w there x twins Free = true
-cellNamesSeen w there x twins Var = true
-cellNamesSeen w there x twins (Val n) = true
+cellNamesSeen w there x twins (Var caller) = true
+cellNamesSeen w there x twins (Val n caller) = true
 cellNamesSeen w there x twins (Ref d) = isEx there
 cellNamesSeen w there x twins (Ex o e n st a) = not (eqb o w) && isLive x && leb 1 n && leb twins 1
 
 -- a cell names neither a cell nor an entry
 abbrev pub namesNothing : Kind → Bool
 namesNothing Free = true
-namesNothing Var = true
-namesNothing (Val n) = true
+namesNothing (Var caller) = true
+namesNothing (Val n caller) = true
 namesNothing (Ref d) = false
 namesNothing (Ex o e n st a) = false
 
@@ -48,8 +48,8 @@ entryNamesSeen w k l x twins (Live c n t) = not (isFree k) && leb twins 1 && (t 
 module _ (𝓜 : Machine) (s : Tables) (w c : ℕ) where
   pub nothing-named : {b : Bool} (k : Kind) → b ≡ namesNothing k → b ≡ true → cellNames 𝓜 s w c k ≡ true
   nothing-named Free h e = refl
-  nothing-named Var h e = refl
-  nothing-named (Val n) h e = refl
+  nothing-named (Var caller) h e = refl
+  nothing-named (Val n caller) h e = refl
   nothing-named (Ref d) h e = absurd-bool e h
   nothing-named (Ex o f n st a) h e = absurd-bool e h
 
@@ -64,8 +64,8 @@ module _ (𝓜 : Machine) (s : Tables) (w : ℕ) (inside : w < 𝓜 .workers) wh
       → r ≡ cellNames 𝓜 s w c k
   unfolding entryThere exesNaming
   cell-names c Free h e = e
-  cell-names c Var h e = e
-  cell-names c (Val n) h e = e
+  cell-names c (Var caller) h e = e
+  cell-names c (Val n caller) h e = e
   cell-names c (Ref d) h e = e
   cell-names c (Ex o f n st a) h e = rw (h ∙ cells-count 𝓜 s w (exNames o f) inside) at e
 
@@ -79,8 +79,8 @@ module _ (𝓜 : Machine) (s : Tables) (w : ℕ) (inside : w < 𝓜 .workers) wh
   safe-seen : (k : Kind) → safeSeen w (entryThere 𝓜 s (namedBy k)) k ≡ safe 𝓜 s w k
   unfolding entryThere safe
   safe-seen Free = refl
-  safe-seen Var = refl
-  safe-seen (Val n) = refl
+  safe-seen (Var caller) = refl
+  safe-seen (Val n caller) = refl
   safe-seen (Ref c) = refl
   safe-seen (Ex o e n st a) = refl
 

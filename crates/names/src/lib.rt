@@ -22,8 +22,8 @@ fn cell_names(w: u8, k: Kind, end: Kind, entry: Holding, twins: u8) -> bool
 {
     match k {
         Kind::Free => true,
-        Kind::Var => true,
-        Kind::Val(_) => true,
+        Kind::Var { .. } => true,
+        Kind::Val { .. } => true,
         Kind::Ref(_) => parts::is_ex(end),
         Kind::Ex { owner, weight, .. } => {
             let live = parts::is_live(entry);
@@ -38,8 +38,8 @@ fn names_nothing(k: Kind) -> bool
 {
     match k {
         Kind::Free => true,
-        Kind::Var => true,
-        Kind::Val(_) => true,
+        Kind::Var { .. } => true,
+        Kind::Val { .. } => true,
         Kind::Ref(_) => false,
         Kind::Ex { .. } => false,
     }

@@ -13,7 +13,7 @@ use Rattle.tables.specs.Parts.{onEx}
 
 pub not-ex : {A : Type 0} {d : A} (f : ℕ → ℕ → ℕ → Status → Bool → A) (k : Kind) → OneOf (0 ∷ 1 ∷ 2 ∷ 3 ∷ []) (tagOf the-type k) → d ≡ onEx d f k
 not-ex f Free o = refl
-not-ex f Var o = refl
-not-ex f (Val n) o = refl
+not-ex f (Var caller) o = refl
+not-ex f (Val n caller) o = refl
 not-ex f (Ref c) o = refl
 not-ex f (Ex o e n st a) t = absurd (miss (0 ∷ 1 ∷ 2 ∷ 3 ∷ []) 4 tt t)

@@ -16,8 +16,8 @@ pub fn is_free(k: Kind) -> bool
 {
     match k {
         Kind::Free => true,
-        Kind::Var => false,
-        Kind::Val(_) => false,
+        Kind::Var { .. } => false,
+        Kind::Val { .. } => false,
         Kind::Ref(_) => false,
         Kind::Ex { .. } => false,
     }
@@ -28,8 +28,8 @@ pub fn is_var(k: Kind) -> bool
 {
     match k {
         Kind::Free => false,
-        Kind::Var => true,
-        Kind::Val(_) => false,
+        Kind::Var { .. } => true,
+        Kind::Val { .. } => false,
         Kind::Ref(_) => false,
         Kind::Ex { .. } => false,
     }
@@ -40,8 +40,8 @@ pub fn is_val(k: Kind) -> bool
 {
     match k {
         Kind::Free => false,
-        Kind::Var => false,
-        Kind::Val(_) => true,
+        Kind::Var { .. } => false,
+        Kind::Val { .. } => true,
         Kind::Ref(_) => false,
         Kind::Ex { .. } => false,
     }
@@ -52,8 +52,8 @@ pub fn is_ex(k: Kind) -> bool
 {
     match k {
         Kind::Free => false,
-        Kind::Var => false,
-        Kind::Val(_) => false,
+        Kind::Var { .. } => false,
+        Kind::Val { .. } => false,
         Kind::Ref(_) => false,
         Kind::Ex { .. } => true,
     }
@@ -128,8 +128,8 @@ pub fn ref_names(c: u8, k: Kind) -> bool
 {
     match k {
         Kind::Free => false,
-        Kind::Var => false,
-        Kind::Val(_) => false,
+        Kind::Var { .. } => false,
+        Kind::Val { .. } => false,
         Kind::Ref(d) => d == c,
         Kind::Ex { .. } => false,
     }
@@ -141,8 +141,8 @@ pub fn end_from(k: Kind, c: u8) -> u8
 {
     match k {
         Kind::Free => c,
-        Kind::Var => c,
-        Kind::Val(_) => c,
+        Kind::Var { .. } => c,
+        Kind::Val { .. } => c,
         Kind::Ref(d) => d,
         Kind::Ex { .. } => c,
     }

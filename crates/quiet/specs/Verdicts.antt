@@ -7,8 +7,7 @@ use Rattle.tables.specs.declared.Outcome.the-variants.{Refused}
 use Rattle.tables.specs.declared.Effect.{Effect}
 use Rattle.tables.specs.Machine.{Machine, Tables}
 use Rattle.rules.specs.Answers.{answered, made, reply, Check, _when_, refuse, checked}
-use Rattle.states.specs.Sound.{sound}
-use Rattle.rules.specs.Refusals.{notSound}
+use Rattle.rules.specs.Order.{Passed}
 use Rattle.quiet.specs.declared.verdict.Verdict.{Verdict}
 use Rattle.quiet.specs.declared.verdict.Verdict.the-variants.{Go, Stop}
 
@@ -40,16 +39,15 @@ unfolding along checked
 along-checked v [] d = refl
 along-checked v ((why when hit) ∷ l) d = along-checked (refuseIf v hit why) l d ∙ one-refusal v hit why (checked l d)
 
--- what is done need be right in a sound state only
-in-sound : (is-sound : Bool) (l : List Check) (d e : Effect) → (is-sound ≡ true → d ≡ e) → checked (notSound is-sound ∷ l) d ≡ checked (notSound is-sound ∷ l) e
+-- what is done need be right only where no line applies
+where-passed : (l : List Check) (d e : Effect) → (Passed l → d ≡ e) → checked l d ≡ checked l e
 unfolding checked
-in-sound true l d e h = ap (checked l) (h refl)
-in-sound false l d e h = refl
+where-passed [] d e h = h tt
+where-passed ((why when true) ∷ l) d e h = refl
+where-passed ((why when false) ∷ l) d e h = where-passed l d e (λ p. h (refl, p))
 
--- a call's reply: its verdict is that of its refusals, and what is done is, in a sound state, what the rule says
-pub decides : (𝓜 : Machine) (s : Tables) (l : List Check) (e : Effect) (v : Verdict) (d : Effect)
-    → v ≡ along Go (notSound (sound 𝓜 s) ∷ l) → (sound 𝓜 s ≡ true → d ≡ e)
-    → reply (made 𝓜 s (settled v d)) ≡ reply (made 𝓜 s (checked (notSound (sound 𝓜 s) ∷ l) e))
+-- a call's reply: its verdict is that of its refusals, and what is done is, where none applies, what the rule says
+pub decides : (𝓜 : Machine) (s : Tables) (l : List Check) (e : Effect) (v : Verdict) (d : Effect) → v ≡ along Go l → (Passed l → d ≡ e)
+    → reply (made 𝓜 s (settled v d)) ≡ reply (made 𝓜 s (checked l e))
 unfolding settled
-decides 𝓜 s l e v d is h =
-    rw is (ap (λ (x : Effect). reply (made 𝓜 s x)) (along-checked Go (notSound (sound 𝓜 s) ∷ l) d ∙ in-sound (sound 𝓜 s) l d e h))
+decides 𝓜 s l e v d is h = rw is (ap (λ (x : Effect). reply (made 𝓜 s x)) (along-checked Go l d ∙ where-passed l d e h))

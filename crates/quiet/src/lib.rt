@@ -14,6 +14,7 @@ use refusals::cell_refusals;
 use refusals::state_refusal;
 use refusals::worker_refusals;
 use tables::Kind;
+use tables::LAST_CALLER;
 use tables::Outcome;
 use tables::Refusal;
 use tables::Reply;
@@ -32,20 +33,22 @@ pub fn start(p: u8) -> Reply
     changes::replied(changes::all_free(p), changes::unchanged(Outcome::Done(0)))
 }
 
-// The lowest free cell becomes VAR.
-pub fn new(s: State, w: u8) -> Reply
-    ensures { λ r. ⌜ r ≡ reply (made eight (tables s) (new eight (tables s) w)) ⌝ }
+// The lowest free cell becomes a VAR of this caller.
+pub fn new(s: State, w: u8, caller: u32) -> Reply
+    ensures { λ r. ⌜ r ≡ reply (made eight (tables s) (new eight (tables s) w caller)) ⌝ }
 {
     let cells = s.cells;
     let slots = s.slots;
     let full = searches::free_cells(cells, w) <= searches::booked(slots, w);
-    let v = worker_refusals(sound::is_sound(s), s.p, w).refuse_if(full, Refusal::NoRoom);
+    let v = worker_refusals(sound::is_sound(s), s.p, w)
+        .refuse_if(LAST_CALLER < caller, Refusal::NoCaller)
+        .refuse_if(full, Refusal::NoRoom);
     let c = searches::lowest_free_cell(cells, w);
-    let done = changes::with_cell(Outcome::Done(c as u32), w, c, Kind::Var);
+    let done = changes::with_cell(Outcome::Done(c as u32), w, c, changes::variable(caller));
     changes::replied(s, v.answer(done))
 }
 
-// VAR becomes VAL(n).
+// VAR becomes VAL(n), and keeps its caller.
 pub fn set(s: State, w: u8, c: u8, n: u32) -> Reply
     ensures { λ r. ⌜ r ≡ reply (made eight (tables s) (set eight (tables s) w c n)) ⌝ }
 {
@@ -55,11 +58,11 @@ pub fn set(s: State, w: u8, c: u8, n: u32) -> Reply
         !parts::is_var(k),
         Refusal::WrongKind,
     );
-    let done = changes::with_cell(Outcome::Done(0), w, c, Kind::Val(n));
+    let done = changes::with_cell(Outcome::Done(0), w, c, changes::valued(n, k));
     changes::replied(s, v.answer(done))
 }
 
-// The VAR c becomes a REF to the end of x, an EX.
+// The VAR c becomes a REF to the end of x, an EX, and loses its caller.
 pub fn bind(s: State, w: u8, c: u8, x: u8) -> Reply
     ensures { λ r. ⌜ r ≡ reply (made eight (tables s) (bind eight (tables s) w c x)) ⌝ }
 {

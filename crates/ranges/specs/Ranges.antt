@@ -24,8 +24,8 @@ part-in-use false in-range = refl
 module _ (𝓜 : Machine) (s : Tables) (w c : ℕ) where
   pub free-in-range : {b : Bool} (k : Kind) → b ≡ isFree k → b ≡ true → cellInRange 𝓜 s w c k ≡ true
   free-in-range Free h t = free-part (workerIn 𝓜 s w)
-  free-in-range Var h t = absurd-bool t h
-  free-in-range (Val n) h t = absurd-bool t h
+  free-in-range (Var caller) h t = absurd-bool t h
+  free-in-range (Val n caller) h t = absurd-bool t h
   free-in-range (Ref d) h t = absurd-bool t h
   free-in-range (Ex o e n st a) h t = absurd-bool t h
 

@@ -27,8 +27,8 @@ fn kind_in_range(p: u8, k: Kind) -> bool
 {
     match k {
         Kind::Free => true,
-        Kind::Var => true,
-        Kind::Val(_) => true,
+        Kind::Var { .. } => true,
+        Kind::Val { .. } => true,
         Kind::Ref(c) => c < CELLS,
         Kind::Ex {
             owner,

@@ -186,6 +186,7 @@ module _ (𝓜 : Machine) (L : Laws 𝓜) (s : Tables) (F : Facts 𝓜 s) (reads
             busy-kept = λ b v. absurd (free-not-busy 𝓜 L s F to c (free .1) b);
             var-kept = λ y v. absurd-bool v refl;
             ex-kept = λ a b t u. absurd-bool t refl;
+            caller-kept = λ a t u. absurd-bool t refl;
             reference-kept = inr (inr (refl, eq-both o e));
             ex-new = λ d a b t u. absurd (unnamed d a b t u);
             reads = λ v d. refl;
@@ -298,9 +299,9 @@ module _ (𝓜 : Machine) (L : Laws 𝓜) (s : Tables) (F : Facts 𝓜 s) (reads
         at-end : {d n : ℕ} {t : Bool} → entry 𝓜 s o e ≡ Live d n t → (y : Kind) → cell 𝓜 s o (end 𝓜 s o d) ≡ y → EndIs y → not (isVar y) ≡ true
             → Delivers 𝓜 s (putMessage s k (readOn r c (Read r c o e) y))
         at-end i Free j is w = no-end Free refl refl is
-        at-end i Var j is w = absurd-bool w refl
-        at-end i (Val v) j is w =
-            is-answered v (λ t. record { steps = 0; owner = o; number = e; there = refl; value = ap (entryEnd 𝓜 s o) i ∙ j })
+        at-end i (Var caller) j is w = absurd-bool w refl
+        at-end i (Val v caller) j is w =
+            is-answered v (λ t. record { steps = 0; owner = o; number = e; there = refl; caller = caller; value = ap (entryEnd 𝓜 s o) i ∙ j })
         at-end i (Ref y) j is w = no-end (Ref y) refl refl is
         at-end i (Ex o′ e′ m Idle a) j is w = goes-on o′ e′ (follow-live 𝓜 s o e i ∙ ap namedBy j)
         at-end i (Ex o′ e′ m Reading a) j is w = goes-on o′ e′ (follow-live 𝓜 s o e i ∙ ap namedBy j)

@@ -1,9 +1,9 @@
--- The numbered cases, the printed run and the wrong turnings, computed of the rules themselves, the soundness test of every call run with
+-- The numbered cases, the printed run, the wrong turnings and the callers, computed of the rules themselves, the soundness test of every call run with
 -- them. Assumes nothing.
 use mathlib.Core.Path.{_≡_, refl}
 use mathlib.Core.Bool.{true}
 use mathlib.Core.List.{[], _∷_}
-use Rattle.rules.specs.Cases.{hold, numberedCases, wrongTurnings, wholeRun}
+use Rattle.rules.specs.Cases.{hold, numberedCases, wrongTurnings, callers, wholeRun}
 
 -- K1 to K10, the whole table
 pub numbered-cases : hold numberedCases ≡ true
@@ -18,3 +18,7 @@ whole-run = refl
 pub wrong-turnings : hold wrongTurnings ≡ true
 unfolding hold
 wrong-turnings = refl
+
+pub callers-carried : hold callers ≡ true
+unfolding hold
+callers-carried = refl

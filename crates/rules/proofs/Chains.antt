@@ -53,7 +53,7 @@ module _ (𝓜 : Machine) (s : Tables) where
           let same : x .steps ≡ y .steps = omega arith in
           let here : ahead 𝓜 s (y .steps) p ≡ At (x .owner) (x .number) = ap (λ (n : ℕ). ahead 𝓜 s n p) (sym same) ∙ x .there in
           let ends = one-end (y .steps) p (x .owner) (x .number) (y .owner) (y .number) here (y .there) in
-          let both : Val u ≡ Val v = sym (x .value) ∙ ends ∙ y .value in
+          let both : Val u (x .caller) ≡ Val v (y .caller) = sym (x .value) ∙ ends ∙ y .value in
           cc
 
   -- a place on a chain that ends in a value has no VAR for its end
@@ -61,7 +61,7 @@ module _ (𝓜 : Machine) (s : Tables) where
   on-chain p n v o e x q var = go (decLt n (x .steps)) (decLt (x .steps) n)
     where
       go : Dec (n < x .steps) → Dec (x .steps < n) → ⊥
-      go (yes l) r = nowhere-at (sym (past-end p n (x .steps) o e q (ap namedBy (var-is (entryEnd 𝓜 s o (entry 𝓜 s o e)) var)) l) ∙ x .there)
+      go (yes l) r = nowhere-at (sym (past-end p n (x .steps) o e q (ap namedBy (var-is (entryEnd 𝓜 s o (entry 𝓜 s o e)) var .1)) l) ∙ x .there)
       go (no l) (yes r) = nowhere-at (sym (past-end p (x .steps) n (x .owner) (x .number) (x .there) (ap namedBy (x .value)) r) ∙ q)
       go (no l) (no r) =
           let same : n ≡ x .steps = omega arith in

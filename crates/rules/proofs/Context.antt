@@ -6,7 +6,7 @@ use mathlib.Core.Bool.{Bool, true, _&&_, _||_, cond}
 use mathlib.Core.Logic.{_⊎_, inl, inr, ⊎-elim}
 use native.Mathlib.Decide.{ℕ-discrete}
 use lib.Dec.{eqb}
-use borrow.Author.Tests.{eq-eqb}
+use borrow.Author.Tests.{eq-eqb, eqb-true}
 use Rattle.numbers.specs.Tests.{absurd-bool}
 use Rattle.tables.specs.declared.Kind.{Kind}
 use Rattle.tables.specs.declared.Kind.the-variants.{Free, Var, Val, Ref, Ex}
@@ -15,13 +15,13 @@ use Rattle.tables.specs.declared.Message.{Message}
 use Rattle.tables.specs.declared.Message.the-variants.{Empty, Reference, Release, Read, Answer, Ask, Supply}
 use Rattle.tables.specs.declared.Place.the-variants.{At}
 use Rattle.tables.specs.Machine.{Machine, Tables}
-use Rattle.tables.specs.Parts.{isFree, isVar, isVal, isEx, exNames, isLive, entryNames, cellOf}
+use Rattle.tables.specs.Parts.{isFree, isVar, isVal, hasCaller, isEx, exNames, isLive, entryNames, cellOf}
 use Rattle.tables.specs.Look.{cell, entry, exported, message}
 use Rattle.states.specs.Chains.{ahead, LeadsTo}
 use Rattle.states.specs.Sound.{messageHolds}
 use Rattle.states.specs.Facts.{MessageFact, Facts, Reads}
 use Rattle.states.specs.Move.{Move, next, ReferenceGoes, Keeps, Makes, nothing, moved}
-use Rattle.rules.specs.Statements.{messageNames, Gone, home, away, KeepsNaming, Continues, as-it-was, given-a-value, bound-to, KeepsContext}
+use Rattle.rules.specs.Statements.{messageNames, Gone, home, away, KeepsNaming, KeepsCallers, Continues, as-it-was, given-a-value, bound-to, KeepsContext}
 use Rattle.states.proofs.Named.{the-live, the-entry-of, names-live-entry, both-eq, eq-both}
 use Rattle.states.proofs.Busy.{exported-by}
 use Rattle.states.proofs.Derived.{live-fact, held-live, sent-held, names-live, LivePlace, live-place, ahead-place, read-live}
@@ -56,23 +56,38 @@ module _ (𝓜 : Machine) (s : Tables) (F : Facts 𝓜 s) where
 
 -- ---- from one state to the next
 module _ (𝓜 : Machine) (s : Tables) (h : Move) (F : Facts 𝓜 s) (K : Keeps 𝓜 s h) where
+  -- a VAR or a VAL that stays one keeps its caller
+  pub keeps-callers : KeepsCallers 𝓜 s (next 𝓜 s h)
+  keeps-callers w c a =
+      stored-each (cell-stored 𝓜 s h (F .sized) (K .placed)) (λ v d x y. hasCaller a x ≡ true → (isVar y || isVal y) ≡ true → hasCaller a y ≡ true)
+      (K .caller-kept a) (λ v d f t u. t) w c
+
   -- an exported VAR or VAL
   continues : (w c : ℕ) → exported 𝓜 s w c ≡ true → (isVar (cell 𝓜 s w c) || isVal (cell 𝓜 s w c)) ≡ true → Continues 𝓜 s (next 𝓜 s h) w c
   continues w c x t = go (cell 𝓜 s w c) refl t
     where
-      after : (k : Kind) → cell 𝓜 s w c ≡ Var → cell 𝓜 (next 𝓜 s h) w c ≡ k → VarAfter 𝓜 s h F K w k → Continues 𝓜 s (next 𝓜 s h) w c
-      after k was now (ref-to-safe y e same safe) = bound-to y was (now ∙ e)
-      after Free was now (var-or-val u) = absurd-bool u refl
-      after Var was now (var-or-val u) = as-it-was (now ∙ sym was)
-      after (Val v) was now (var-or-val u) = given-a-value v was now
-      after (Ref d) was now (var-or-val u) = absurd-bool u refl
-      after (Ex o e n st a) was now (var-or-val u) = absurd-bool u refl
+      -- the caller of what it then holds, where that is a VAR or a VAL
+      caller-is : (caller : ℕ) (k : Kind) → cell 𝓜 s w c ≡ Var caller → cell 𝓜 (next 𝓜 s h) w c ≡ k → (isVar k || isVal k) ≡ true → hasCaller caller k ≡ true
+      caller-is caller k was now u =
+          let has = ap (hasCaller caller) was ∙ eq-eqb caller caller refl in
+          sym (ap (hasCaller caller) now)
+          ∙ keeps-callers w c caller has (ap (λ (x : Kind). isVar x || isVal x) now ∙ u)
+
+      after : (caller : ℕ) (k : Kind) → cell 𝓜 s w c ≡ Var caller → cell 𝓜 (next 𝓜 s h) w c ≡ k → VarAfter 𝓜 s h F K w k → Continues 𝓜 s (next 𝓜 s h) w c
+      after caller k was now (ref-to-safe y e same safe) = bound-to y caller was (now ∙ e)
+      after caller Free was now (var-or-val u) = absurd-bool u refl
+      after caller (Var a) was now (var-or-val u) =
+          as-it-was (now ∙ ap Var (eqb-true a caller (caller-is caller (Var a) was now u)) ∙ sym was)
+      after caller (Val v a) was now (var-or-val u) =
+          given-a-value v caller was (now ∙ ap (Val v) (eqb-true a caller (caller-is caller (Val v a) was now u)))
+      after caller (Ref d) was now (var-or-val u) = absurd-bool u refl
+      after caller (Ex o e n st a) was now (var-or-val u) = absurd-bool u refl
 
       go : (k : Kind) → cell 𝓜 s w c ≡ k → (isVar k || isVal k) ≡ true → Continues 𝓜 s (next 𝓜 s h) w c
       go Free q u = absurd-bool u refl
-      go Var q u = after (cell 𝓜 (next 𝓜 s h) w c) q refl (var-after 𝓜 s h F K w c x q)
-      go (Val n) q u =
-          as-it-was (exported-same 𝓜 s h F K w c (Val n) x q refl refl ∙ sym q)
+      go (Var caller) q u = after caller (cell 𝓜 (next 𝓜 s h) w c) q refl (var-after 𝓜 s h F K w c x caller q)
+      go (Val n caller) q u =
+          as-it-was (exported-same 𝓜 s h F K w c (Val n caller) x q refl refl ∙ sym q)
       go (Ref d) q u = absurd-bool u refl
       go (Ex o e n st a) q u = absurd-bool u refl
 
@@ -152,3 +167,8 @@ naming-kept 𝓜 s h F K =
 pub naming-made : (𝓜 : Machine) (s t : Tables) → Facts 𝓜 s → Makes 𝓜 s t → KeepsNaming 𝓜 s t
 naming-made 𝓜 s t F (nothing) = record { same-entry = λ w c o e n x. n; same-reference = λ k to o e n q. inl refl }
 naming-made 𝓜 s t F (moved h K on C) = naming-kept 𝓜 s h F K
+
+-- ---- callers
+pub callers-made : (𝓜 : Machine) (s t : Tables) → Facts 𝓜 s → Makes 𝓜 s t → KeepsCallers 𝓜 s t
+callers-made 𝓜 s t F (nothing) = λ w c a h u. h
+callers-made 𝓜 s t F (moved h K on C) = keeps-callers 𝓜 s h F K

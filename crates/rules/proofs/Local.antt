@@ -2,7 +2,7 @@
 use Prim.Native.Nat.{ℕ, _+_, _<_, _≤_}
 use native.Mathlib.Omega.{arith}
 use mathlib.Core.Path.{_≡_, refl, sym, ap, subst, _∙_}
-use mathlib.Core.Bool.{Bool, true, false, _&&_, not, cond}
+use mathlib.Core.Bool.{Bool, true, false, _&&_, _||_, not, cond}
 use mathlib.Core.Logic.{_⊎_, inl, inr}
 use lib.Dec.{eqb, leb}
 use borrow.Author.Tests.{leb-false}
@@ -15,12 +15,12 @@ use Rattle.tables.specs.declared.Message.{Message}
 use Rattle.tables.specs.declared.Message.the-variants.{Empty, Reference, Release}
 use Rattle.tables.specs.declared.Change.the-variants.{OfCell}
 use Rattle.tables.specs.Machine.{Machine, Tables}
-use Rattle.tables.specs.Parts.{readingOf, isFree, isEx, isReading, isAsking, goesTo}
+use Rattle.tables.specs.Parts.{readingOf, isFree, isVar, isVal, hasCaller, isEx, isReading, isAsking, goesTo}
 use Rattle.tables.specs.Look.{cell, entry, end, endKind, safe, exported, busy, lowestFreeCell, lowestEmptySlot, booked, freeCells, message, putCell, putMessage, changed}
 use Rattle.rules.specs.Answers.{done, made}
 use Rattle.states.specs.Sound.{readsFor, asksFor, cellHolds, messageHolds}
 use Rattle.rules.specs.Refusals.{newRefusals, setRefusals, bindRefusals, transferRefusals, dropRefusals}
-use Rattle.rules.specs.Calls.{transferred, dropped, new, set, bind, transfer, drop}
+use Rattle.rules.specs.Calls.{valued, transferred, dropped, new, set, bind, transfer, drop}
 use Rattle.states.specs.Machines.{Laws}
 use Rattle.states.specs.Facts.{CellFact, MessageFact, ReadAhead, AnswerFact, Facts, KnownFact}
 use Rattle.states.proofs.Inside.{cell-inside}
@@ -65,9 +65,9 @@ module _ (𝓜 : Machine) (L : Laws 𝓜) (s : Tables) (F : Facts 𝓜 s) where
       makes-by 𝓜 s (stores-cell 𝓜 L s F w c k₀ k M) (inl refl) (λ t. record { answer-ok = inl refl; known-ok = inr (known after) })
 
   -- ---- new
-  new-moves : (w c : ℕ) → w < s .p → booked s w < freeCells 𝓜 s w → c < 𝓜 .cells → cell 𝓜 s w c ≡ Free
-      → CellMoves 𝓜 L s w c Free Var 0 (message s 0) (message s 0)
-  new-moves w c u r l q =
+  new-moves : (w c caller : ℕ) → w < s .p → booked s w < freeCells 𝓜 s w → c < 𝓜 .cells → cell 𝓜 s w c ≡ Free
+      → CellMoves 𝓜 L s w c Free (Var caller) 0 (message s 0) (message s 0)
+  new-moves w c caller u r l q =
       record {
         w-in = omega (arith, F .p-le);
         c-in = l;
@@ -79,6 +79,7 @@ module _ (𝓜 : Machine) (L : Laws 𝓜) (s : Tables) (F : Facts 𝓜 s) where
         busy-kept = λ b v. absurd (free-not-busy 𝓜 L s F w c q b);
         var-kept = λ x v. absurd-bool v refl;
         ex-kept = λ a b t y. absurd-bool t refl;
+        caller-kept = λ a t u. absurd-bool t refl;
         reference-kept = inl refl;
         ex-new = λ d a b t y. absurd-bool t refl;
         reads = λ v d. refl;
@@ -88,21 +89,22 @@ module _ (𝓜 : Machine) (L : Laws 𝓜) (s : Tables) (F : Facts 𝓜 s) where
         room = λ v. omega (arith, room-sent 𝓜 L s F w 0 0 0 r v, mark-cond (eqb w v));
       }
 
-  pub new-makes : (w : ℕ) → Makes 𝓜 s (made 𝓜 s (new 𝓜 s w) .after)
+  pub new-makes : (w caller : ℕ) → Makes 𝓜 s (made 𝓜 s (new 𝓜 s w caller) .after)
   unfolding new
-  new-makes w =
+  new-makes w caller =
       let c = lowestFreeCell 𝓜 s w in
-      makes-checked 𝓜 s (newRefusals 𝓜 s w) (done c (OfCell w c Var))
+      makes-checked 𝓜 s (newRefusals 𝓜 s w caller) _
       (λ p.
       let u = worker-used w (search) in
       let r = has-room 𝓜 L s F w (search) in
       let f = free-cell 𝓜 L s F w (omega arith) in
-      cell-makes w c Free Var (new-moves w c (u .0) r (f .0) (f .1)) (λ t. tt))
+      cell-makes w c Free _ (new-moves w c _ (u .0) r (f .0) (f .1)) (λ t. tt))
 
   -- ---- set and bind: a VAR gets its value, or becomes a REF
-  var-moves : (w c : ℕ) (k : Kind) → cell 𝓜 s w c ≡ Var → CellFact 𝓜 (next 𝓜 s (cellMove 𝓜 s w c Var k 0 (message s 0) (message s 0))) w k
-      → (exported 𝓜 s w c ≡ true → VarBecomes 𝓜 s w k) → isEx k ≡ false → isFree k ≡ false → CellMoves 𝓜 L s w c Var k 0 (message s 0) (message s 0)
-  var-moves w c k q ok becomes ne nf =
+  var-moves : (w c caller : ℕ) (k : Kind) → cell 𝓜 s w c ≡ Var caller → CellFact 𝓜 (next 𝓜 s (cellMove 𝓜 s w c (Var caller) k 0 (message s 0) (message s 0))) w k
+      → (exported 𝓜 s w c ≡ true → VarBecomes 𝓜 s w k)
+      → ((a : ℕ) → hasCaller a (Var caller) ≡ true → (isVar k || isVal k) ≡ true → hasCaller a k ≡ true) → isEx k ≡ false → isFree k ≡ false → CellMoves 𝓜 L s w c (Var caller) k 0 (message s 0) (message s 0)
+  var-moves w c caller k q ok becomes caller-ok ne nf =
       let inside = cell-inside 𝓜 s w c (ap isFree q) in
       record {
         w-in = inside .0;
@@ -115,6 +117,7 @@ module _ (𝓜 : Machine) (L : Laws 𝓜) (s : Tables) (F : Facts 𝓜 s) where
         busy-kept = λ b v. absurd-bool refl v;
         var-kept = λ x v. becomes x;
         ex-kept = λ a b t y. absurd-bool t refl;
+        caller-kept = caller-ok;
         reference-kept = inl refl;
         ex-new = λ d a b t y. absurd-bool t (not-on-ex false (λ owner entr n st z. eqb owner a && eqb entr b) k ne);
         reads = λ v d. rw (not-on-ex false (λ o e n st z. readingOf st) k ne);
@@ -127,11 +130,12 @@ module _ (𝓜 : Machine) (L : Laws 𝓜) (s : Tables) (F : Facts 𝓜 s) where
   pub set-makes : (w c n : ℕ) → Makes 𝓜 s (made 𝓜 s (set 𝓜 s w c n) .after)
   unfolding set
   set-makes w c n =
-      makes-checked 𝓜 s (setRefusals 𝓜 s w c) (done 0 (OfCell w c (Val n)))
+      makes-checked 𝓜 s (setRefusals 𝓜 s w c) (done 0 (OfCell w c (valued n (cell 𝓜 s w c))))
       (λ p.
       let u = worker-used w (search) in
       let q = var-is (cell 𝓜 s w c) (not-false (search)) in
-      cell-makes w c Var (Val n) (var-moves w c (Val n) q (u .0) (λ x. stays refl) refl refl) (λ t. tt))
+      let k = valued n (Var (q .0)) in
+      rw (q .1) (cell-makes w c (Var (q .0)) k (var-moves w c (q .0) k (q .1) (u .0) (λ x. stays refl) (λ a t v. t) refl refl) (λ t. tt)))
 
   pub bind-makes : (w c x : ℕ) → Makes 𝓜 s (made 𝓜 s (bind 𝓜 s w c x) .after)
   unfolding bind endKind
@@ -143,14 +147,16 @@ module _ (𝓜 : Machine) (L : Laws 𝓜) (s : Tables) (F : Facts 𝓜 s) where
       let q = var-is (cell 𝓜 s w c) (not-false (search)) in
       let ex : isEx (cell 𝓜 s w y) ≡ true = not-false (search) in
       let guarded : (exported 𝓜 s w c && not (safe 𝓜 s w (cell 𝓜 s w y))) ≡ false = search in
-      cell-makes w c Var (Ref y) (var-moves w c (Ref y) q (u .0, ref-ex q ex) (λ e. bound y refl (not-false (rw e at guarded))) refl refl) (λ t. tt))
+      cell-makes w c (Var (q .0)) (Ref y)
+      (var-moves w c (q .0) (Ref y) (q .1) (u .0, ref-ex (q .0) (q .1) ex) (λ e. bound y refl (not-false (rw e at guarded))) (λ a t v. absurd-bool v refl) refl refl)
+      (λ t. tt))
     where
-      ref-ex : cell 𝓜 s w c ≡ Var → isEx (cell 𝓜 s w (end 𝓜 s w x)) ≡ true
-          → isEx (cell 𝓜 (next 𝓜 s (cellMove 𝓜 s w c Var (Ref (end 𝓜 s w x)) 0 (message s 0) (message s 0))) w (end 𝓜 s w x)) ≡ true
-      ref-ex q ex =
+      ref-ex : (caller : ℕ) → cell 𝓜 s w c ≡ Var caller → isEx (cell 𝓜 s w (end 𝓜 s w x)) ≡ true
+          → isEx (cell 𝓜 (next 𝓜 s (cellMove 𝓜 s w c (Var caller) (Ref (end 𝓜 s w x)) 0 (message s 0) (message s 0))) w (end 𝓜 s w x)) ≡ true
+      ref-ex caller q ex =
           let inside = cell-inside 𝓜 s w c (ap isFree q) in
           let y = end 𝓜 s w x in
-          let h = cellMove 𝓜 s w c Var (Ref y) 0 (message s 0) (message s 0) in
+          let h = cellMove 𝓜 s w c (Var caller) (Ref y) 0 (message s 0) (message s 0) in
           let stored = cell-stored 𝓜 s h (F .sized) (cell-placed 𝓜 L s (inside .0) (inside .1) (L .slots-some) q refl) in
           ap isEx (stored .there w y (λ a b. absurd-bool ex (ap isEx (ap (cell 𝓜 s w) (sym b) ∙ q)))) ∙ ex
 
@@ -186,6 +192,7 @@ module _ (𝓜 : Machine) (L : Laws 𝓜) (s : Tables) (F : Facts 𝓜 s) where
         busy-kept = λ b v. absurd-bool b (f .idle);
         var-kept = λ x v. absurd-bool x (quiet .0);
         ex-kept = λ a b t y. absurd-bool y refl;
+        caller-kept = λ a t u. absurd-bool u refl;
         reference-kept = f .reference-kept;
         ex-new = λ d a b t y. absurd-bool t refl;
         reads = λ v d. omega (arith, f .reads v d, ap (λ (z : Bool). cond (eqb w v && eqb c d) (bit z) 0) no-read);
@@ -267,8 +274,8 @@ module _ (𝓜 : Machine) (L : Laws 𝓜) (s : Tables) (F : Facts 𝓜 s) where
       go : (k : Kind) → cell 𝓜 s w c ≡ k → isFree (cell 𝓜 s w c) ≡ false → busy 𝓜 s w c ≡ false
           → (isEx (cell 𝓜 s w c) && leb (𝓜 .slots) (lowestEmptySlot 𝓜 s)) ≡ false → Makes 𝓜 s (changed 𝓜 s (dropped w c k (lowestEmptySlot 𝓜 s) .change))
       go Free q nf idle full = absurd-bool (ap isFree q) nf
-      go Var q nf idle full = frees-only w c Var q refl idle (λ a b. refl)
-      go (Val n) q nf idle full = frees-only w c (Val n) q refl idle (λ a b. refl)
+      go (Var caller) q nf idle full = frees-only w c (Var caller) q refl idle (λ a b. refl)
+      go (Val n caller) q nf idle full = frees-only w c (Val n caller) q refl idle (λ a b. refl)
       go (Ref d) q nf idle full = frees-only w c (Ref d) q refl idle (λ a b. refl)
       go (Ex o e n st a) q nf idle full =
           frees-sent w c (Release o e n) q idle

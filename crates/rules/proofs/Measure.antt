@@ -86,8 +86,8 @@ pub record ExOn (o e : ℕ) (st₀ : Status) (k : Kind) : Type 0 where
 
 abbrev pub KindOn : Kind → Kind → Type 0
 KindOn Free k = Unit {0}
-KindOn Var k = Unit {0}
-KindOn (Val n) k = Unit {0}
+KindOn (Var caller) k = Unit {0}
+KindOn (Val n caller) k = Unit {0}
 KindOn (Ref d) k = Unit {0}
 KindOn (Ex o e n st a) k = ExOn o e st k
 
@@ -98,8 +98,8 @@ status-same (Known v) = refl
 
 pub kind-same : (k : Kind) → KindOn k k
 kind-same Free = tt
-kind-same Var = tt
-kind-same (Val n) = tt
+kind-same (Var caller) = tt
+kind-same (Val n caller) = tt
 kind-same (Ref d) = tt
 kind-same (Ex o e n st a) = record { weight = n; status = st; asking = a; is = refl; on = status-same st }
 

@@ -1,6 +1,6 @@
 -- "Where several apply, the lowest is given": `checked` gives the first of a call's refusals that applies, the refusals of every call stand
--- in the order of precedence, and that of document 01's refusals is the order of their numbers. Assumes nothing.
-use Prim.Native.Nat.{ℕ, _*_, _≤_}
+-- in the order of precedence, which is the order of document 01's numbers, and a later number stands where its request says. Assumes nothing.
+use Prim.Native.Nat.{ℕ, _*_, _≤_, _<_}
 use native.Mathlib.Omega.{arith}
 use mathlib.Core.Path.{_≡_, refl}
 use mathlib.Core.Bool.{Bool, true, false, cond}
@@ -9,7 +9,7 @@ use lib.Dec.{leb}
 use borrow.Author.Tests.{leb-true}
 use Rattle.numbers.specs.Tests.{and-l, and-r}
 use Rattle.tables.specs.declared.Refusal.{Refusal}
-use Rattle.tables.specs.declared.Refusal.the-variants.{WorkerCount, NotSound, NoWorker, ToItself, NoCell, WrongKind, Busy, Unsafe, LastWeight, OverCeiling, NoEntry, NoRoom, NoSlot, NoMessage, NotReady}
+use Rattle.tables.specs.declared.Refusal.the-variants.{WorkerCount, NotSound, NoWorker, ToItself, NoCell, WrongKind, Busy, Unsafe, LastWeight, OverCeiling, NoEntry, NoRoom, NoSlot, NoMessage, NotReady, NoCaller}
 use Rattle.tables.specs.declared.Effect.{Effect}
 use Rattle.tables.specs.declared.Call.{Call}
 use Rattle.tables.specs.declared.Call.the-variants.{Start, New, Set, Bind, Export, Indirect, Transfer, Drop, ReadCell, AskWeight, Deliver, Bound}
@@ -39,27 +39,33 @@ lowest-given n ((w when false) ∷ l) d h why (later c r a) =
     let x = lowest-given (precedence w) l d (and-r (leb n (precedence w)) (inOrderFrom (precedence w) l) h) why a in
     record { given = x .given; is = x .is; lowest = x .lowest }
 
-pub by-number : (why : Refusal) → precedence why ≡ 10 * numberOf why
-by-number WorkerCount = refl
-by-number NotSound = refl
-by-number NoWorker = refl
-by-number ToItself = refl
-by-number NoCell = refl
-by-number WrongKind = refl
-by-number Busy = refl
-by-number Unsafe = refl
-by-number LastWeight = refl
-by-number OverCeiling = refl
-by-number NoEntry = refl
-by-number NoRoom = refl
-by-number NoSlot = refl
-by-number NoMessage = refl
-by-number NotReady = refl
+-- document 01's fifteen stand in the order of their numbers
+pub by-number : (why : Refusal) → numberOf why ≤ 15 → precedence why ≡ 10 * numberOf why
+by-number WorkerCount h = refl
+by-number NotSound h = refl
+by-number NoWorker h = refl
+by-number ToItself h = refl
+by-number NoCell h = refl
+by-number WrongKind h = refl
+by-number Busy h = refl
+by-number Unsafe h = refl
+by-number LastWeight h = refl
+by-number OverCeiling h = refl
+by-number NoEntry h = refl
+by-number NoRoom h = refl
+by-number NoSlot h = refl
+by-number NoMessage h = refl
+by-number NotReady h = refl
+by-number NoCaller h = absurd (omega arith)
+
+-- "16 for a caller above 255, after 3 and before 12"
+pub caller-between : (precedence NoWorker < precedence NoCaller) × (precedence NoCaller < precedence NoRoom)
+caller-between = (omega arith, omega arith)
 
 pub in-order : (𝓜 : Machine) (s : Tables) (q : Call) → inOrder (refusalsOf 𝓜 s q) ≡ true
 unfolding inOrderFrom
 in-order 𝓜 s (Start p) = refl
-in-order 𝓜 s (New w) = refl
+in-order 𝓜 s (New w caller) = refl
 in-order 𝓜 s (Set w c n) = refl
 in-order 𝓜 s (Bind w c x) = refl
 in-order 𝓜 s (Export w c to) = go (isEx (endKind 𝓜 s w c))

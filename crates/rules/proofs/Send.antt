@@ -257,8 +257,8 @@ module _ (𝓜 : Machine) (L : Laws 𝓜) (s : Tables) (F : Facts 𝓜 s) where
       go : (k : Kind) → cell 𝓜 s w x ≡ k → (readSends k && leb (𝓜 .slots) (lowestEmptySlot 𝓜 s)) ≡ false
           → Makes 𝓜 s (changed 𝓜 s (readAt w x k (lowestEmptySlot 𝓜 s) .change))
       go Free q t = nothing
-      go Var q t = nothing
-      go (Val n) q t = nothing
+      go (Var caller) q t = nothing
+      go (Val n caller) q t = nothing
       go (Ref d) q t = nothing
       go (Ex o e n Idle a) q t =
           mark-sent w x Reading a (Read w x o e) q t (λ v d. sym (mark-cond (eqb w v && eqb x d))) (λ v d. refl) (λ y v d. refl) (λ v. refl)
@@ -278,8 +278,8 @@ module _ (𝓜 : Machine) (L : Laws 𝓜) (s : Tables) (F : Facts 𝓜 s) where
       go : (k : Kind) → cell 𝓜 s w x ≡ k → (not (isAsking k) && leb (𝓜 .slots) (lowestEmptySlot 𝓜 s)) ≡ false
           → Makes 𝓜 s (changed 𝓜 s (askAt w x k (lowestEmptySlot 𝓜 s) .change))
       go Free q t = nothing
-      go Var q t = nothing
-      go (Val n) q t = nothing
+      go (Var caller) q t = nothing
+      go (Val n caller) q t = nothing
       go (Ref d) q t = nothing
       go (Ex o e n st true) q t = nothing
       go (Ex o e n st false) q t =

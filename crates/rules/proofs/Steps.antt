@@ -21,6 +21,7 @@ use Rattle.tables.specs.Machine.{Machine, Tables}
 use Rattle.tables.specs.Parts.{isFree, isVar, isEx, isReading, isAsking, isUnused, isEmpty, goesTo}
 use Rattle.tables.specs.Look.{cell, entry, entryOf, exported, referred, busy, lowestFreeCell, lowestFreeEntry, lowestEmptySlot, booked, freeCells, message, changed}
 use Rattle.rules.specs.Answers.{Check, _when_, refuse, checked}
+use Rattle.rules.specs.Order.{Passed}
 use Rattle.states.specs.Machines.{Laws}
 use Rattle.states.specs.Facts.{Facts}
 use Rattle.states.proofs.Named.{the-entry-of}
@@ -29,12 +30,7 @@ use Rattle.states.proofs.Derived.{bit-one, live-fact, cell-fact}
 use Rattle.states.specs.Move.{ReadsOn, TrueValues, Carries, Makes, nothing, moved}
 use Rattle.states.proofs.Moves.{Stores}
 
--- ---- refusals passed: none of the tests hit
-abbrev pub Passed : List Check → Type 0
-Passed [] = Unit {0}
-Passed ((why when hit) ∷ l) = (hit ≡ false) × Passed l
-
--- a refused call leaves the state as it came
+-- ---- refusals passed: a refused call leaves the state as it came
 pub makes-checked : (𝓜 : Machine) (s : Tables) (l : List Check) (d : Effect) → (Passed l → Makes 𝓜 s (changed 𝓜 s (d .change)))
     → Makes 𝓜 s (changed 𝓜 s (checked l d .change))
 unfolding checked
@@ -53,15 +49,15 @@ not-false {b = false} e = absurd-bool refl e
 -- ---- parts by their tests
 pub free-is : (k : Kind) → isFree k ≡ true → k ≡ Free
 free-is Free t = refl
-free-is Var t = absurd-bool t refl
-free-is (Val n) t = absurd-bool t refl
+free-is (Var caller) t = absurd-bool t refl
+free-is (Val n caller) t = absurd-bool t refl
 free-is (Ref d) t = absurd-bool t refl
 free-is (Ex o e n st a) t = absurd-bool t refl
 
-pub var-is : (k : Kind) → isVar k ≡ true → k ≡ Var
+pub var-is : (k : Kind) → isVar k ≡ true → (caller : ℕ) × (k ≡ Var caller)
 var-is Free t = absurd-bool t refl
-var-is Var t = refl
-var-is (Val n) t = absurd-bool t refl
+var-is (Var caller) t = (caller, refl)
+var-is (Val n caller) t = absurd-bool t refl
 var-is (Ref d) t = absurd-bool t refl
 var-is (Ex o e n st a) t = absurd-bool t refl
 

@@ -46,7 +46,7 @@ use Rattle.states.proofs.Count.{standing-live, comes-to-end}
 use Rattle.rules.proofs.Measure.{measure, measure-bound, StatusOn, KindOn, ExOn, Arrived, arrived}
 use Rattle.states.proofs.Stays.{facts-made, invariant-made}
 use Rattle.states.proofs.Ends.{own-context}
-use Rattle.rules.proofs.Context.{message-live, context-made, naming-made}
+use Rattle.rules.proofs.Context.{message-live, context-made, naming-made, callers-made}
 use Rattle.rules.proofs.Steps.{makes-checked, not-false}
 use Rattle.rules.proofs.Local.{new-makes, set-makes, bind-makes, transfer-makes, drop-makes}
 use Rattle.rules.proofs.Send.{export-makes, indirect-makes, read-makes, ask-makes}
@@ -79,7 +79,7 @@ module _ (𝓜 : Machine) (L : Laws 𝓜) where
   call-makes : (s : Tables) → Facts 𝓜 s → Reads 𝓜 s → (q : Call) → ((p : ℕ) × (q ≡ Start p)) ⊎ Makes 𝓜 s (step 𝓜 s q .after)
   unfolding step
   call-makes s F reads (Start p) = inl (p, refl)
-  call-makes s F reads (New w) = inr (new-makes 𝓜 L s F w)
+  call-makes s F reads (New w caller) = inr (new-makes 𝓜 L s F w caller)
   call-makes s F reads (Set w c v) = inr (set-makes 𝓜 L s F w c v)
   call-makes s F reads (Bind w c x) = inr (bind-makes 𝓜 L s F w c x)
   call-makes s F reads (Export w c to) = inr (export-makes 𝓜 L s F w c to)
@@ -349,4 +349,6 @@ module _ (𝓜 : Machine) (L : Laws 𝓜) where
             λ s r q n. let I = reached-invariant s r in naming-made 𝓜 s (step 𝓜 s q .after) (I .facts) (step-makes s (I .facts) (I .reads) q n);
         reference-keeps-context =
             λ s r q n. let I = reached-invariant s r in context-made 𝓜 s (step 𝓜 s q .after) (I .facts) (step-makes s (I .facts) (I .reads) q n);
+        callers-kept =
+            λ s r q n. let I = reached-invariant s r in callers-made 𝓜 s (step 𝓜 s q .after) (I .facts) (step-makes s (I .facts) (I .reads) q n);
       }

@@ -3,7 +3,7 @@ use Prim.Native.Nat.{ℕ}
 use mathlib.Core.Bool.{Bool, true, false}
 use mathlib.Core.List.{List, [], _∷_}
 use Rattle.tables.specs.declared.Refusal.{Refusal}
-use Rattle.tables.specs.declared.Refusal.the-variants.{WorkerCount, NotSound, NoWorker, ToItself, NoCell, WrongKind, Busy, Unsafe, LastWeight, OverCeiling, NoEntry, NoRoom, NoSlot, NoMessage, NotReady}
+use Rattle.tables.specs.declared.Refusal.the-variants.{WorkerCount, NotSound, NoWorker, ToItself, NoCell, WrongKind, Busy, Unsafe, LastWeight, OverCeiling, NoEntry, NoRoom, NoSlot, NoMessage, NotReady, NoCaller}
 use Rattle.tables.specs.declared.Outcome.{Outcome}
 use Rattle.tables.specs.declared.Outcome.the-variants.{Done, Sent, Waiting, Unbound, Refused}
 use Rattle.tables.specs.declared.Change.{Change}
@@ -30,13 +30,15 @@ numberOf NoRoom = 12
 numberOf NoSlot = 13
 numberOf NoMessage = 14
 numberOf NotReady = 15
+numberOf NoCaller = 16
 
--- Where several apply, the one of the lowest precedence is given. So far it is the order of the numbers; a later number says what it stands
--- after and before.
+-- Where several apply, the one of the lowest precedence is given. For document 01's fifteen it is the order of the numbers; a later number
+-- says what it stands after and before: "16 .., after 3 and before 12".
 abbrev pub precedence : Refusal → ℕ
 precedence WorkerCount = 10
 precedence NotSound = 20
 precedence NoWorker = 30
+precedence NoCaller = 35
 precedence ToItself = 40
 precedence NoCell = 50
 precedence WrongKind = 60
@@ -50,7 +52,7 @@ precedence NoSlot = 130
 precedence NoMessage = 140
 precedence NotReady = 150
 
--- "code (00 done, 01 to 0f refused, by number, .., 40 Sent, 41 Waiting, 42 Unbound ..) and value"
+-- "code (00 done, 01 to 0f refused, by number, later numbers likewise, 40 Sent, 41 Waiting, 42 Unbound ..) and value"
 abbrev pub codeOf : Outcome → ℕ
 codeOf (Done v) = 0
 codeOf (Sent k) = 0x40

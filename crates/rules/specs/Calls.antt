@@ -17,7 +17,7 @@ use Rattle.tables.specs.declared.Change.the-variants.{OfCell, OfCellAndSlot, Of
 use Rattle.tables.specs.declared.Effect.{Effect}
 use Rattle.tables.specs.declared.Used.{Used}
 use Rattle.tables.specs.Machine.{Machine, Tables}
-use Rattle.tables.specs.Parts.{onVal, onEx, isEx}
+use Rattle.tables.specs.Parts.{onVar, onVal, onEx, isEx}
 use Rattle.tables.specs.Look.{cell, end, endKind, safe, lowestFreeCell, lowestEmptySlot, liveEntries}
 use Rattle.rules.specs.Answers.{Result, done, sent, answered, checked}
 use Rattle.rules.specs.Refusals.{badCount, used, newRefusals, setRefusals, bindRefusals, exportRefusals, indirectRefusals, transferRefusals, dropRefusals, readRefusals, askRefusals, boundRefusals}
@@ -42,6 +42,10 @@ start 𝓜 p =
     cond (badCount 𝓜 p) (record { outcome = Refused WorkerCount; after = closed 𝓜 }) (record { outcome = Done 0; after = allFree 𝓜 p })
 
 -- ---- what the calls make of one part
+
+-- "VAR becomes VAL(n)"; W-201: "`set` keeps" the caller
+abbrev pub valued : ℕ → Kind → Kind
+valued n k = onVar k (λ caller. Val n caller) k
 
 -- "Its entry, or the lowest free one made .., gains 1,024": the entry of the cell c, made with this taint
 abbrev pub gains : ℕ → ℕ → Bool → Holding → Holding
@@ -104,7 +108,7 @@ readEx w x slot o e n Reading a = answered Waiting
 readEx w x slot o e n (Known v) a = answered (Done v)
 
 abbrev pub readAt : ℕ → ℕ → Kind → ℕ → Effect
-readAt w x k slot = onEx (onVal (answered Unbound) (λ n. answered (Done n)) k) (readEx w x slot) k
+readAt w x k slot = onEx (onVal (answered Unbound) (λ n caller. answered (Done n)) k) (readEx w x slot) k
 
 -- "Asking already: Waiting. Else Ask is sent: Sent, value the slot." The EX is then asking.
 abbrev pub askEx : ℕ → ℕ → ℕ → ℕ → ℕ → ℕ → Status → Bool → Effect
@@ -118,17 +122,17 @@ askAt w x k slot = onEx (answered Waiting) (askEx w x slot) k
 -- ---- the calls
 
 module _ (𝓜 : Machine) (s : Tables) where
-  -- "new(w): lowest free cell becomes VAR. Value: cell."
-  unfoldable pub new : ℕ → Effect
-  new w =
+  -- "new(w): lowest free cell becomes VAR. Value: cell." W-201: "`new` takes a caller number ..; VAR and VAL cells carry it".
+  unfoldable pub new : ℕ → ℕ → Effect
+  new w caller =
       let c = lowestFreeCell 𝓜 s w in
-      checked (newRefusals 𝓜 s w) (done c (OfCell w c Var))
+      checked (newRefusals 𝓜 s w caller) (done c (OfCell w c (Var caller)))
 
   -- "set(w, c, n): VAR becomes VAL(n)."
   unfoldable pub set : ℕ → ℕ → ℕ → Effect
-  set w c n = checked (setRefusals 𝓜 s w c) (done 0 (OfCell w c (Val n)))
+  set w c n = checked (setRefusals 𝓜 s w c) (done 0 (OfCell w c (valued n (cell 𝓜 s w c))))
 
-  -- "bind(w, c, x): c is a VAR, the end of x an EX; c becomes a REF to that end."
+  -- "bind(w, c, x): c is a VAR, the end of x an EX; c becomes a REF to that end." W-201: "A bind loses the variable's own caller".
   unfoldable pub bind : ℕ → ℕ → ℕ → Effect
   bind w c x = checked (bindRefusals 𝓜 s w c x) (done 0 (OfCell w c (Ref (end 𝓜 s w x))))
 

@@ -1,7 +1,7 @@
 -- Document 01's numbered cases K1 to K10 as one table, the wrong turnings that they leave open as another, and the whole run printed in its
--- "text program", as calls with their codes and values. A case begins from a state, and each row is a call with its answer or a look at what then stands in the tables. Assumes nothing.
+-- "text program", as calls with their codes and values; and W-201's callers. A case begins from a state, and each row is a call with its answer or a look at what then stands in the tables. Assumes nothing.
 use Prim.Native.Nat.{ℕ}
-use mathlib.Core.Bool.{Bool, true, false, _&&_}
+use mathlib.Core.Bool.{Bool, true, false, _&&_, _||_, not}
 use mathlib.Core.List.{List, [], _∷_, _++_}
 use lib.Dec.{eqb}
 use lib.ListN.{replicate}
@@ -16,7 +16,7 @@ use Rattle.tables.specs.declared.Call.{Call}
 use Rattle.tables.specs.declared.Call.the-variants.{Start, New, Set, Bind, Export, Indirect, Transfer, Drop, ReadCell, AskWeight, Deliver, Bound}
 use Rattle.tables.specs.declared.Outcome.{Outcome}
 use Rattle.tables.specs.Machine.{Tables, eight}
-use Rattle.tables.specs.Parts.{exWeight, isUnused, entryWeight, messageWeight}
+use Rattle.tables.specs.Parts.{isVar, isVal, hasCaller, exWeight, isUnused, entryWeight, messageWeight}
 use Rattle.tables.specs.Look.{cell, entry, end, endKind, safe, entryOf, exported, referred, busy, lowestFreeCell, lowestFreeEntry, lowestEmptySlot, exNaming, freeCells, booked, liveEntries, message, putCell, putEntry, putMessage}
 use Rattle.rules.specs.Answers.{codeOf, valueOf, checked}
 use Rattle.states.specs.Chains.{follow}
@@ -45,6 +45,9 @@ pub data Row : Type 0 where
   liveWeighs : ℕ → ℕ → ℕ → Row
   -- an entry is free
   entryFree : ℕ → ℕ → Row
+  -- the caller of the VAR or VAL of a worker's cell, and a cell that has none
+  callerIs : ℕ → ℕ → ℕ → Row
+  callerLost : ℕ → ℕ → Row
 
 -- the answer has this code and value
 abbrev pub answers : Outcome → ℕ → ℕ → Bool
@@ -70,7 +73,7 @@ k3 = case (closed eight) (gives (Start 9) 1 0 ∷ [])
 abbrev pub k4-k5 : Case
 k4-k5 =
     case (allFree eight 3)
-    (gives (New 0) 0 0
+    (gives (New 0 0) 0 0
     ∷ gives (Export 0 0 1) 0 0
     ∷ gives (Deliver 0) 0 0
     ∷ cellWeighs 1 0 1024
@@ -99,7 +102,7 @@ k4-k5 =
 abbrev pub k6 : Case
 k6 =
     case (allFree eight 2)
-    (gives (New 1) 0 0
+    (gives (New 1 0) 0 0
     ∷ gives (Export 1 0 0) 0 0
     ∷ gives (Deliver 0) 0 0
     ∷ gives (Indirect 0 0 1) 0 0
@@ -111,10 +114,10 @@ k6 =
 abbrev pub k7 : Case
 k7 =
     case (allFree eight 2)
-    (gives (New 0) 0 0
+    (gives (New 0 0) 0 0
     ∷ gives (Export 0 0 1) 0 0
     ∷ gives (Deliver 0) 0 0
-    ∷ gives (New 1) 0 1
+    ∷ gives (New 1 0) 0 1
     ∷ gives (Export 1 1 0) 0 0
     ∷ gives (Bind 1 1 0) 0 0
     ∷ [])
@@ -123,7 +126,7 @@ k7 =
 abbrev pub k8 : Case
 k8 =
     case (allFree eight 2)
-    (gives (New 0) 0 0
+    (gives (New 0 0) 0 0
     ∷ gives (Export 0 0 1) 0 0
     ∷ gives (Deliver 0) 0 0
     ∷ gives (ReadCell 1 0) 0x40 0
@@ -134,7 +137,7 @@ k8 =
 abbrev pub k9 : Case
 k9 =
     case (allFree eight 2)
-    (gives (New 0) 0 0
+    (gives (New 0 0) 0 0
     ∷ gives (Export 0 0 1) 0 0
     ∷ gives (Deliver 0) 0 0
     ∷ gives (Transfer 1 0 0) 0 0
@@ -146,7 +149,7 @@ k9 =
 -- "K10 entry at the ceiling, Ask delivered: Supply of 0."
 unfoldable pub atCeiling : Tables
 atCeiling =
-    putEntry eight (putCell eight (putCell eight (allFree eight 2) 0 0 Var) 1 0 (Ex 0 0 1048576 Idle false)) 0 0 (Live 0 1048576 false)
+    putEntry eight (putCell eight (putCell eight (allFree eight 2) 0 0 (Var 0)) 1 0 (Ex 0 0 1048576 Idle false)) 0 0 (Live 0 1048576 false)
 
 abbrev pub k10 : Case
 k10 =
@@ -171,7 +174,7 @@ nearlyFull =
       p = 2;
       cells =
           replicate 32 (record { kind = Free })
-          ++ (replicate 31 (record { kind = Var }) ++ replicate 193 (record { kind = Free }));
+          ++ (replicate 31 (record { kind = Var 0 }) ++ replicate 193 (record { kind = Free }));
       entries = replicate 128 (record { holding = Unused });
       slots = replicate 64 (record { message = Empty });
     }
@@ -179,9 +182,9 @@ nearlyFull =
 abbrev pub bookedCell : Case
 bookedCell =
     case nearlyFull
-    (gives (New 0) 0 0
+    (gives (New 0 0) 0 0
     ∷ gives (Export 0 0 1) 0 0
-    ∷ gives (New 1) 12 0
+    ∷ gives (New 1 0) 12 0
     ∷ gives (Deliver 0) 0 31
     ∷ [])
 
@@ -189,7 +192,7 @@ bookedCell =
 abbrev pub knownKeepsWeight : Case
 knownKeepsWeight =
     case (allFree eight 2)
-    (gives (New 0) 0 0
+    (gives (New 0 0) 0 0
     ∷ gives (Set 0 0 7) 0 0
     ∷ gives (Export 0 0 1) 0 0
     ∷ gives (Deliver 0) 0 0
@@ -203,16 +206,16 @@ knownKeepsWeight =
 
 -- "returns the closed state": after a refused start no worker is there.
 abbrev pub refusedStartCloses : Case
-refusedStartCloses = case (allFree eight 2) (gives (Start 9) 1 0 ∷ gives (New 0) 3 0 ∷ [])
+refusedStartCloses = case (allFree eight 2) (gives (Start 9) 1 0 ∷ gives (New 0 0) 3 0 ∷ [])
 
 -- "Every call but the start first tests this": a live entry on which nothing is held.
 unfoldable pub nothingHeld : Tables
-nothingHeld = putEntry eight (putCell eight (allFree eight 2) 0 0 Var) 0 0 (Live 0 1 false)
+nothingHeld = putEntry eight (putCell eight (allFree eight 2) 0 0 (Var 0)) 0 0 (Live 0 1 false)
 
 abbrev pub refusedUnsound : Case
 refusedUnsound =
     case nothingHeld
-    (gives (New 0) 2 0
+    (gives (New 0 0) 2 0
     ∷ gives (Set 0 0 7) 2 0
     ∷ gives (Bind 0 0 0) 2 0
     ∷ gives (Export 0 0 1) 2 0
@@ -228,7 +231,7 @@ refusedUnsound =
 -- "reach the ceiling; the 1,025th: 10": an entry 1,024 below it.
 unfoldable pub belowCeiling : Tables
 belowCeiling =
-    putEntry eight (putCell eight (putCell eight (allFree eight 2) 0 0 Var) 1 0 (Ex 0 0 1047552 Idle false)) 0 0 (Live 0 1047552 false)
+    putEntry eight (putCell eight (putCell eight (allFree eight 2) 0 0 (Var 0)) 1 0 (Ex 0 0 1047552 Idle false)) 0 0 (Live 0 1047552 false)
 
 abbrev pub ceilingReached : Case
 ceilingReached =
@@ -242,11 +245,11 @@ ceilingReached =
 abbrev pub busyCells : Case
 busyCells =
     case (allFree eight 2)
-    (gives (New 0) 0 0
+    (gives (New 0 0) 0 0
     ∷ gives (Export 0 0 1) 0 0
     ∷ gives (Drop 0 0) 7 0
     ∷ gives (Deliver 0) 0 0
-    ∷ gives (New 1) 0 1
+    ∷ gives (New 1 0) 0 1
     ∷ gives (Bind 1 1 0) 0 0
     ∷ gives (Drop 1 0) 7 0
     ∷ gives (Drop 1 1) 0 64
@@ -261,7 +264,7 @@ busyCells =
 abbrev pub keptByAReference : Case
 keptByAReference =
     case (allFree eight 2)
-    (gives (New 0) 0 0
+    (gives (New 0 0) 0 0
     ∷ gives (Set 0 0 7) 0 0
     ∷ gives (Set 0 0 8) 6 0
     ∷ gives (Export 0 0 1) 0 0
@@ -275,12 +278,42 @@ keptByAReference =
 abbrev pub wrongTurnings : List Case
 wrongTurnings = bookedCell ∷ knownKeepsWeight ∷ refusedStartCloses ∷ refusedUnsound ∷ ceilingReached ∷ busyCells ∷ keptByAReference ∷ []
 
+-- ---- W-201: "`new` takes a caller number, 0 to 255 ..; VAR and VAL cells carry it, `set` keeps it, a REF or EX has none of its own .. A bind
+-- loses the variable's own caller"; "16 for a caller above 255, after 3 and before 12"
+abbrev pub carried : Case
+carried =
+    case (allFree eight 2)
+    (gives (New 0 255) 0 0
+    ∷ gives (New 0 256) 16 0
+    ∷ gives (New 2 256) 3 0
+    ∷ gives (Set 0 0 7) 0 0
+    ∷ callerIs 0 0 255
+    ∷ gives (Export 0 0 1) 0 0
+    ∷ gives (Deliver 0) 0 0
+    ∷ gives (New 1 9) 0 1
+    ∷ callerIs 1 1 9
+    ∷ gives (Bind 1 1 0) 0 0
+    ∷ callerLost 1 1
+    ∷ callerIs 0 0 255
+    ∷ [])
+
+abbrev pub callerBeforeRoom : Case
+callerBeforeRoom =
+    case nearlyFull
+    (gives (New 1 255) 0 31
+    ∷ gives (New 1 255) 12 0
+    ∷ gives (New 1 256) 16 0
+    ∷ [])
+
+abbrev pub callers : List Case
+callers = carried ∷ callerBeforeRoom ∷ []
+
 -- ---- "A whole run, input then output, line for line"
 abbrev pub wholeRun : Case
 wholeRun =
     case (closed eight)
     (gives (Start 2) 0 0
-    ∷ gives (New 0) 0 0
+    ∷ gives (New 0 0) 0 0
     ∷ gives (Export 0 0 1) 0 0
     ∷ gives (Deliver 0) 0 0
     ∷ gives (ReadCell 1 0) 0x40 0
@@ -309,6 +342,9 @@ holdsFrom s ((supplyWeighs k n) ∷ rows) =
     isSupply (message s k) && eqb (messageWeight (message s k)) n && holdsFrom s rows
 holdsFrom s ((liveWeighs w e n) ∷ rows) = eqb (entryWeight (entry eight s w e)) n && holdsFrom s rows
 holdsFrom s ((entryFree w e) ∷ rows) = isUnused (entry eight s w e) && holdsFrom s rows
+holdsFrom s ((callerIs w c a) ∷ rows) = hasCaller a (cell eight s w c) && holdsFrom s rows
+holdsFrom s ((callerLost w c) ∷ rows) =
+    not (isVar (cell eight s w c) || isVal (cell eight s w c)) && holdsFrom s rows
 
 unfoldable pub hold : List Case → Bool
 unfolding holdsFrom

@@ -50,7 +50,7 @@ readOnEx r c o e Reading = Read r c o e
 readOnEx r c o e (Known v) = Answer r c v
 
 abbrev pub readOn : ℕ → ℕ → Message → Kind → Message
-readOn r c m k = onEx (onVal m (λ v. Answer r c v) k) (λ o e n st a. readOnEx r c o e st) k
+readOn r c m k = onEx (onVal m (λ v caller. Answer r c v) k) (λ o e n st a. readOnEx r c o e st) k
 
 module _ (𝓜 : Machine) (s : Tables) where
   -- the cell of worker w where a Reference to the entry e of worker o arrives

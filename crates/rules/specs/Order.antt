@@ -1,6 +1,6 @@
 -- What "the lowest is given" asks of a list of refusals, that they stand in the order of precedence; and what it says. Assumes nothing.
 use Prim.Native.Nat.{ℕ, _≤_}
-use mathlib.Core.Bool.{Bool, true, _&&_}
+use mathlib.Core.Bool.{Bool, true, false, _&&_}
 use mathlib.Core.List.{List, [], _∷_}
 use mathlib.Core.Path.{_≡_}
 use lib.Dec.{leb}
@@ -21,6 +21,11 @@ inOrderFrom n ((why when hit) ∷ l) = leb n (precedence why) && inOrderFrom (pr
 abbrev pub inOrder : List Check → Bool
 inOrder l = inOrderFrom 0 l
 
+-- no line of the list applies
+abbrev pub Passed : List Check → Type 0
+Passed [] = Unit {0}
+Passed ((why when hit) ∷ l) = (hit ≡ false) × Passed l
+
 -- a line of the list applies, and is this refusal's
 pub data Applies (why : Refusal) : List Check → Type 0 where
   first : (l : List Check) → Applies why ((why when true) ∷ l)
@@ -35,7 +40,7 @@ pub record LowestGiven (l : List Check) (d : Effect) (why : Refusal) : Type 0 wh
 -- the lines of each call but start, which has one
 abbrev pub refusalsOf : Machine → Tables → Call → List Check
 refusalsOf 𝓜 s (Start p) = []
-refusalsOf 𝓜 s (New w) = newRefusals 𝓜 s w
+refusalsOf 𝓜 s (New w caller) = newRefusals 𝓜 s w caller
 refusalsOf 𝓜 s (Set w c n) = setRefusals 𝓜 s w c
 refusalsOf 𝓜 s (Bind w c x) = bindRefusals 𝓜 s w c x
 refusalsOf 𝓜 s (Export w c to) = exportRefusals 𝓜 s w c to

@@ -11,7 +11,7 @@ use Rattle.tables.specs.declared.Kind.the-variants.{Free}
 use Rattle.tables.specs.declared.Message.{Message}
 use Rattle.tables.specs.declared.Used.{Used}
 use Rattle.tables.specs.declared.Room.{Room}
-use Rattle.tables.specs.declared.Refusal.the-variants.{NotSound, NoWorker, ToItself, NoCell, WrongKind, Busy, Unsafe, LastWeight, OverCeiling, NoEntry, NoRoom, NoSlot, NoMessage, NotReady}
+use Rattle.tables.specs.declared.Refusal.the-variants.{NotSound, NoWorker, ToItself, NoCell, WrongKind, Busy, Unsafe, LastWeight, OverCeiling, NoEntry, NoRoom, NoSlot, NoMessage, NotReady, NoCaller}
 use Rattle.tables.specs.Machine.{Machine, Tables}
 use Rattle.tables.specs.Parts.{onEx, isFree, isVar, isEx, isAsking, exWeight, entryWeight, isEmpty, onRead}
 use Rattle.tables.specs.Look.{cell, entry, end, endKind, safe, entryOf, exported, busy, lowestFreeEntry, lowestEmptySlot, freeCells, booked, message, room}
@@ -97,13 +97,18 @@ noMessage m = NoMessage when isEmpty m
 abbrev pub notReady : Bool → Check
 notReady is-ready = NotReady when not is-ready
 
--- ---- the lines of each call, over what it has looked up: what is wrong with its arguments, 2 to 6, and then with the moment, 7 and up
+-- 16: "for a caller above 255"
+abbrev pub noCaller : ℕ → Check
+noCaller caller = NoCaller when ltb 255 caller
+
+-- ---- the lines of each call, over what it has looked up: what is wrong with its arguments, 2 to 6 and 16, and then with the moment, 7 to 15
 
 abbrev pub workerLines : Bool → ℕ → ℕ → List Check
 workerLines is-sound p w = notSound is-sound ∷ noWorker p w ∷ []
 
-abbrev pub newLines : Bool → ℕ → ℕ → ℕ → ℕ → List Check
-newLines is-sound p w free booked-there = workerLines is-sound p w ++ noRoom free booked-there ∷ []
+-- "16 .., after 3 and before 12"
+abbrev pub newLines : Bool → ℕ → ℕ → ℕ → ℕ → ℕ → List Check
+newLines is-sound p w caller free booked-there = (workerLines is-sound p w ++ noCaller caller ∷ []) ++ noRoom free booked-there ∷ []
 
 -- k is what the cell holds
 abbrev pub cellLines : Bool → ℕ → ℕ → Kind → List Check
@@ -176,8 +181,8 @@ module _ (𝓜 : Machine) (s : Tables) where
 
   -- ---- the lines of each call in a state
 
-  abbrev pub newRefusals : ℕ → List Check
-  newRefusals w = newLines (sound 𝓜 s) (s .p) w (freeCells 𝓜 s w) (booked s w)
+  abbrev pub newRefusals : ℕ → ℕ → List Check
+  newRefusals w caller = newLines (sound 𝓜 s) (s .p) w caller (freeCells 𝓜 s w) (booked s w)
 
   abbrev pub setRefusals : ℕ → ℕ → List Check
   setRefusals w c = setLines (sound 𝓜 s) (s .p) w (cell 𝓜 s w c)

@@ -6,7 +6,7 @@
 -- refused ones skipped (`drained`, `successes`).
 use Prim.Native.Nat.{ℕ, zero, suc, _≤_, _<_}
 use mathlib.Core.Path.{_≡_}
-use mathlib.Core.Bool.{Bool, true, false, _&&_, not}
+use mathlib.Core.Bool.{Bool, true, false, _&&_, _||_, not}
 use mathlib.Core.List.{List, [], _∷_}
 use mathlib.Core.Logic.{_⊎_}
 use lib.Dec.{eqb}
@@ -17,7 +17,7 @@ use Rattle.tables.specs.declared.Message.the-variants.{Empty, Reference, Releas
 use Rattle.tables.specs.declared.Place.the-variants.{At}
 use Rattle.tables.specs.declared.Call.{Call}
 use Rattle.tables.specs.Machine.{Machine, Tables}
-use Rattle.tables.specs.Parts.{isFree, isVar, isEx, exNames, isLive, isTainted, entryNames, cellOf, entryWeight, isEmpty}
+use Rattle.tables.specs.Parts.{isFree, isVar, isVal, hasCaller, isEx, exNames, isLive, isTainted, entryNames, cellOf, entryWeight, isEmpty}
 use Rattle.tables.specs.Look.{cell, entry, liveEntries, message}
 use Rattle.rules.specs.Answers.{succeeds}
 use Rattle.states.specs.Sound.{held, sound}
@@ -159,11 +159,11 @@ module _ (𝓜 : Machine) where
   ReferenceKeepsNaming = (s : Tables) → Reached 𝓜 s → (q : Call) → isStart q ≡ false → KeepsNaming s (step 𝓜 s q .after)
 
   -- By `NoLoops` that entry leads to a context. From one state to the next the context is what it was, or a variable that has been given a
-  -- value, or bound; by which call, and to what, the rules say.
+  -- value and keeps its caller, or bound; by which call, and to what, the rules say.
   pub data Continues (s s′ : Tables) (w c : ℕ) : Type 0 where
     as-it-was : cell 𝓜 s′ w c ≡ cell 𝓜 s w c → Continues s s′ w c
-    given-a-value : (v : ℕ) → cell 𝓜 s w c ≡ Var → cell 𝓜 s′ w c ≡ Val v → Continues s s′ w c
-    bound-to : (d : ℕ) → cell 𝓜 s w c ≡ Var → cell 𝓜 s′ w c ≡ Ref d → Continues s s′ w c
+    given-a-value : (v caller : ℕ) → cell 𝓜 s w c ≡ Var caller → cell 𝓜 s′ w c ≡ Val v caller → Continues s s′ w c
+    bound-to : (d caller : ℕ) → cell 𝓜 s w c ≡ Var caller → cell 𝓜 s′ w c ≡ Ref d → Continues s s′ w c
 
   -- While an entry is live from one state to the next it keeps its cell and its taint, that cell is not freed, and the entry leads by the same
   -- steps to the same context.
@@ -182,7 +182,15 @@ module _ (𝓜 : Machine) where
       (s : Tables) → Reached 𝓜 s → (q : Call) → isStart q ≡ false → (o e : ℕ) → isLive (entry 𝓜 s o e) ≡ true
       → isLive (entry 𝓜 (step 𝓜 s q .after) o e) ≡ true → KeepsContext s (step 𝓜 s q .after) o e
 
-  -- Demand 3, whole, and that a reference keeps its context.
+  -- ---- W-201: "VAR and VAL cells carry it, `set` keeps it": whatever the call, a VAR or a VAL that stays one keeps its caller.
+  abbrev pub KeepsCallers : Tables → Tables → Type 0
+  KeepsCallers s s′ =
+      (w c a : ℕ) → hasCaller a (cell 𝓜 s w c) ≡ true → (isVar (cell 𝓜 s′ w c) || isVal (cell 𝓜 s′ w c)) ≡ true → hasCaller a (cell 𝓜 s′ w c) ≡ true
+
+  abbrev pub CallersKept : Type 0
+  CallersKept = (s : Tables) → Reached 𝓜 s → (q : Call) → isStart q ≡ false → KeepsCallers s (step 𝓜 s q .after)
+
+  -- Demand 3, whole, that a reference keeps its context, and a context its caller.
   pub record Demand3 : Type 0 where
     pub every-sequence : EverySequence
     pub stays-sound : StaysSound
@@ -198,3 +206,4 @@ module _ (𝓜 : Machine) where
     pub refers-to-live : RefersToLive
     pub reference-keeps-naming : ReferenceKeepsNaming
     pub reference-keeps-context : ReferenceKeepsContext
+    pub callers-kept : CallersKept

@@ -14,7 +14,7 @@ use Rattle.rules.specs.Deliver.{deliver}
 module _ (𝓜 : Machine) where
   unfoldable pub step : Tables → Call → Result
   step s (Start p) = start 𝓜 p
-  step s (New w) = made 𝓜 s (new 𝓜 s w)
+  step s (New w caller) = made 𝓜 s (new 𝓜 s w caller)
   step s (Set w c n) = made 𝓜 s (set 𝓜 s w c n)
   step s (Bind w c x) = made 𝓜 s (bind 𝓜 s w c x)
   step s (Export w c to) = made 𝓜 s (export 𝓜 s w c to)
@@ -46,7 +46,7 @@ module _ (𝓜 : Machine) where
 
 abbrev pub isStart : Call → Bool
 isStart (Start p) = true
-isStart (New w) = false
+isStart (New w caller) = false
 isStart (Set w c n) = false
 isStart (Bind w c x) = false
 isStart (Export w c to) = false

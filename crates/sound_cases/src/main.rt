@@ -36,11 +36,11 @@ fn known_asking(owner: u8, entry: u8, weight: u32, n: u32) -> Kind {
 
 // ---- states
 
-// Four workers: each kind of cell.
+// Four workers: each kind of cell, of several callers.
 fn cells_of_0(p: u8) -> State {
     let mut s = all_free(p);
-    s = put_cell(s, 0, 0, Kind::Var);
-    s = put_cell(s, 0, 1, Kind::Val(7));
+    s = put_cell(s, 0, 0, Kind::Var { caller: 255 });
+    s = put_cell(s, 0, 1, Kind::Val { n: 7, caller: 17 });
     put_cell(s, 0, 2, idle(3, 0, 70))
 }
 
@@ -49,7 +49,7 @@ fn cells_to_1(p: u8) -> State {
     s = put_cell(s, 1, 0, reading(0, 0, 100, false));
     s = put_cell(s, 1, 1, Kind::Ref(0));
     s = put_cell(s, 1, 2, known_asking(0, 1, 200, 7));
-    s = put_cell(s, 1, 3, Kind::Var);
+    s = put_cell(s, 1, 3, Kind::Var { caller: 17 });
     put_cell(s, 1, 4, idle(0, 2, 80))
 }
 
@@ -57,14 +57,14 @@ fn cells_to_2(p: u8) -> State {
     let mut s = cells_to_1(p);
     s = put_cell(s, 2, 0, idle(1, 0, 300));
     s = put_cell(s, 2, 1, asking(0, 1, 50));
-    put_cell(s, 2, 2, Kind::Val(9))
+    put_cell(s, 2, 2, Kind::Val { n: 9, caller: 255 })
 }
 
 fn busy_cells(p: u8) -> State {
     let mut s = cells_to_2(p);
     s = put_cell(s, 3, 0, reading(2, 0, 400, false));
     s = put_cell(s, 3, 1, reading(0, 0, 60, true));
-    put_cell(s, 3, 2, Kind::Var)
+    put_cell(s, 3, 2, Kind::Var { caller: 0 })
 }
 
 // With their entries: a REF and an EX that is safe are exported by 1 and 2, an unsafe one by 0.
@@ -127,7 +127,7 @@ fn with_loop() -> State {
 fn with_cells_below(c: u8) -> State {
     let mut s = busy(4);
     for d in 3..c {
-        s = put_cell(s, 2, d, Kind::Var);
+        s = put_cell(s, 2, d, Kind::Var { caller: 0 });
     }
     s
 }
@@ -183,10 +183,16 @@ fn workers_beyond_p() {
     show(b"p-255", all_free(255));
     show(
         b"closed-with-a-cell",
-        put_cell(all_free(0), 0, 0, Kind::Var),
+        put_cell(all_free(0), 0, 0, Kind::Var { caller: 0 }),
     );
-    show(b"cell-of-worker-p", with_cell(4, 0, Kind::Var));
-    show(b"cell-of-worker-7", with_cell(7, 31, Kind::Val(0)));
+    show(
+        b"cell-of-worker-p",
+        with_cell(4, 0, Kind::Var { caller: 0 }),
+    );
+    show(
+        b"cell-of-worker-7",
+        with_cell(7, 31, Kind::Val { n: 0, caller: 0 }),
+    );
     show(b"entry-of-worker-p", with_entry(4, 0, live(0, 1)));
 }
 
@@ -275,7 +281,7 @@ fn entries_name() {
     show(b"untainted-owner-not-below", with_entry(0, 2, live(2, 80)));
     show(
         b"untainted-names-tainted",
-        with_exported(Kind::Var, live(4, 10)),
+        with_exported(Kind::Var { caller: 0 }, live(4, 10)),
     );
     show(
         b"untainted-ref-to-unsafe",

@@ -77,8 +77,8 @@ module _ (𝓜 : Machine) (s : Tables) (w c : ℕ) where
     where
       the-ref : (k : Kind) → refNames c k ≡ true → k ≡ Ref c
       the-ref Free t = absurd-bool t refl
-      the-ref Var t = absurd-bool t refl
-      the-ref (Val n) t = absurd-bool t refl
+      the-ref (Var caller) t = absurd-bool t refl
+      the-ref (Val n caller) t = absurd-bool t refl
       the-ref (Ref d) t = ap Ref (eqb-true d c t)
       the-ref (Ex o e n st a) t = absurd-bool t refl
 

@@ -61,8 +61,8 @@ module _ (𝓜 : Machine) (s : Tables) (h : Move) (F : Facts 𝓜 s) (K : Keeps 
   -- a cell that stands in the tables after the move
   known-kept : (v d : ℕ) (k : Kind) → cell 𝓜 (next 𝓜 s h) v d ≡ k → KnownFact 𝓜 s k → KnownFact 𝓜 (next 𝓜 s h) k
   known-kept v d Free q f = tt
-  known-kept v d Var q f = tt
-  known-kept v d (Val n) q f = tt
+  known-kept v d (Var caller) q f = tt
+  known-kept v d (Val n caller) q f = tt
   known-kept v d (Ref y) q f = tt
   known-kept v d (Ex o e n st a) q f =
       status-kept (At o e) st (subst (LivePlace 𝓜 (next 𝓜 s h)) (ap namedBy q) (named-place 𝓜 (next 𝓜 s h) F′ v d)) f

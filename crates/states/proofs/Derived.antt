@@ -81,8 +81,8 @@ module _ (𝓜 : Machine) (s : Tables) (F : Facts 𝓜 s) where
     where
       go : (k : Kind) → isFree k ≡ false → CellFact 𝓜 s w k → w < s .p
       go Free t f = absurd-bool refl t
-      go Var t f = f
-      go (Val n) t f = f
+      go (Var caller) t f = f
+      go (Val n caller) t f = f
       go (Ref d) t f = f .0
       go (Ex o e n st a) t f = f .0
 

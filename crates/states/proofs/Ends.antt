@@ -37,8 +37,8 @@ module _ (𝓜 : Machine) (s : Tables) (F : Facts 𝓜 s) where
 
       go : (k : Kind) → cell 𝓜 s o d ≡ k → isFree k ≡ false → EndIs (endKind 𝓜 s o d)
       go Free q t = absurd-bool refl t
-      go Var q t = plain (ap (λ (k : Kind). isVar k || isVal k) (end-self 𝓜 s o d Var q refl))
-      go (Val n) q t = plain (ap (λ (k : Kind). isVar k || isVal k) (end-self 𝓜 s o d (Val n) q refl))
+      go (Var caller) q t = plain (ap (λ (k : Kind). isVar k || isVal k) (end-self 𝓜 s o d (Var caller) q refl))
+      go (Val n caller) q t = plain (ap (λ (k : Kind). isVar k || isVal k) (end-self 𝓜 s o d (Val n caller) q refl))
       go (Ref y) q t = ex-end (endKind 𝓜 s o d) (ap isEx (end-ref 𝓜 s o d y q) ∙ cell-fact 𝓜 s F o d q .1)
       go (Ex a b n st w) q t = ex-end (endKind 𝓜 s o d) (ap isEx (end-self 𝓜 s o d (Ex a b n st w) q refl))
 
@@ -61,8 +61,8 @@ module _ (𝓜 : Machine) (s : Tables) (F : Facts 𝓜 s) where
     where
       go : (k : Kind) → cell 𝓜 s o d ≡ k → endKind 𝓜 s o d ≡ cell 𝓜 s o d
       go Free q = end-self 𝓜 s o d Free q refl ∙ sym q
-      go Var q = end-self 𝓜 s o d Var q refl ∙ sym q
-      go (Val n) q = end-self 𝓜 s o d (Val n) q refl ∙ sym q
+      go (Var caller) q = end-self 𝓜 s o d (Var caller) q refl ∙ sym q
+      go (Val n caller) q = end-self 𝓜 s o d (Val n caller) q refl ∙ sym q
       go (Ref y) q =
           let x = the-ex (endKind 𝓜 s o d) (ap isEx (end-ref 𝓜 s o d y q) ∙ cell-fact 𝓜 s F o d q .1) in
           absurd-bool t (ap (λ (k : Kind). isVar k || isVal k) (x .is))

@@ -38,8 +38,8 @@ module _ (𝓜 : Machine) (s : Tables) (F : Facts 𝓜 s) {o e : ℕ} {x₀ x : 
   good-same : (k : Kind) → CellFact 𝓜 s o k → varValOrSafe 𝓜 s o k ≡ true → varValOrSafe 𝓜 s′ o k ≡ true
   unfolding safe
   good-same Free f t = t
-  good-same Var f t = refl
-  good-same (Val n) f t = refl
+  good-same (Var caller) f t = refl
+  good-same (Val n caller) f t = refl
   good-same (Ref d) f t = t
   good-same (Ex o′ e′ n st a) f t =
       ap (λ (y : Holding). ltb o′ o && not (isTainted y)) (entry-stored 𝓜 s h (F .sized) P .there o′ e′ (λ p q. f .1 (sym p))) ∙ t

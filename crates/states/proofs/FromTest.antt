@@ -86,8 +86,8 @@ module _ (𝓜 : Machine) (L : Laws 𝓜) (s : Tables) (z : Sized 𝓜 s) (h : s
 
   cell-fact : (w c : ℕ) (k : Kind) → cellInRange 𝓜 s w c k ≡ true → cellNames 𝓜 s w c k ≡ true → CellFact 𝓜 s w k
   cell-fact w c Free i m = tt
-  cell-fact w c Var i m = ltb-true w (s .p) (in-use (ltb w (s .p)) true i)
-  cell-fact w c (Val n) i m = ltb-true w (s .p) (in-use (ltb w (s .p)) true i)
+  cell-fact w c (Var caller) i m = ltb-true w (s .p) (in-use (ltb w (s .p)) true i)
+  cell-fact w c (Val n caller) i m = ltb-true w (s .p) (in-use (ltb w (s .p)) true i)
   cell-fact w c (Ref d) i m = (ltb-true w (s .p) (in-use (ltb w (s .p)) (kindInRange 𝓜 s (Ref d)) i), m)
   cell-fact w c (Ex o e n st a) i m =
       let q = ex-parts w c o e n st a m in (
@@ -183,8 +183,8 @@ module _ (𝓜 : Machine) (L : Laws 𝓜) (s : Tables) (z : Sized 𝓜 s) (h : s
   -- what the cell's own test says of the two counts
   waits-one : (w c : ℕ) (k : Kind) → cellAwaited 𝓜 s w c k ≡ true → (isReading k ≡ true → readsOf 𝓜 s w c ≡ 1) × (isAsking k ≡ true → asksOf 𝓜 s w c ≡ 1)
   waits-one w c Free t = ((λ u. absurd-bool u refl), (λ u. absurd-bool u refl))
-  waits-one w c Var t = ((λ u. absurd-bool u refl), (λ u. absurd-bool u refl))
-  waits-one w c (Val n) t = ((λ u. absurd-bool u refl), (λ u. absurd-bool u refl))
+  waits-one w c (Var caller) t = ((λ u. absurd-bool u refl), (λ u. absurd-bool u refl))
+  waits-one w c (Val n caller) t = ((λ u. absurd-bool u refl), (λ u. absurd-bool u refl))
   waits-one w c (Ref d) t = ((λ u. absurd-bool u refl), (λ u. absurd-bool u refl))
   waits-one w c (Ex o e n st a) t =
       let reads = not (readingOf st) || eqb (readsOf 𝓜 s w c) 1 in
@@ -220,8 +220,8 @@ module _ (𝓜 : Machine) (L : Laws 𝓜) (s : Tables) (z : Sized 𝓜 s) (h : s
 
     cell-none : (w c : ℕ) (k : Kind) → cell 𝓜 s w c ≡ k → cellHolds 𝓜 s o e k ≡ 0
     cell-none w c Free x = refl
-    cell-none w c Var x = refl
-    cell-none w c (Val n) x = refl
+    cell-none w c (Var caller) x = refl
+    cell-none w c (Val n caller) x = refl
     cell-none w c (Ref d) x = refl
     cell-none w c (Ex o′ e′ n st a) x =
         holds-none o′ e′ n (ex-parts w c o′ e′ n st a (ap (cellNames 𝓜 s w c) (sym x) ∙ names w c) .1)

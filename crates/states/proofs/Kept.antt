@@ -38,24 +38,24 @@ shown-name d f j k q = sym (unshown j) ∙ ap (onEx d (λ o e n st a. f o e)) q 
   where
     unshown : (y : Kind) → onEx d (λ o e n st a. f o e) (shown y) ≡ onEx d (λ o e n st a. f o e) y
     unshown Free = refl
-    unshown Var = refl
-    unshown (Val n) = refl
+    unshown (Var caller) = refl
+    unshown (Val n caller) = refl
     unshown (Ref c) = refl
     unshown (Ex o e n st a) = refl
 
 -- a cell that looks like something other than an EX is it
 pub shown-plain : (j k : Kind) → isEx k ≡ false → shown j ≡ k → j ≡ k
 shown-plain Free k t q = q
-shown-plain Var k t q = q
-shown-plain (Val n) k t q = q
+shown-plain (Var caller) k t q = q
+shown-plain (Val n caller) k t q = q
 shown-plain (Ref d) k t q = q
 shown-plain (Ex o e n st a) k t q = absurd-bool (sym (ap isEx q)) t
 
 -- a VAR or a VAL is its own end, and names no entry
 pub var-val-end : (k : Kind) (d : ℕ) → (isVar k || isVal k) ≡ true → (isFree k ≡ false) × (endFrom k d ≡ d) × (namedBy k ≡ Nowhere)
 var-val-end Free d t = absurd-bool t refl
-var-val-end Var d t = (refl, refl, refl)
-var-val-end (Val n) d t = (refl, refl, refl)
+var-val-end (Var caller) d t = (refl, refl, refl)
+var-val-end (Val n caller) d t = (refl, refl, refl)
 var-val-end (Ref y) d t = absurd-bool t refl
 var-val-end (Ex o e n st a) d t = absurd-bool t refl
 
@@ -163,8 +163,8 @@ module _ (𝓜 : Machine) (s : Tables) (h : Move) (F : Facts 𝓜 s) (K : Keeps 
   -- what held of a cell still does, and its REF still names an EX
   cell-kept : (v d : ℕ) (k : Kind) → cell 𝓜 s v d ≡ k → CellFact 𝓜 s v k → CellFact 𝓜 s′ v k
   cell-kept v d Free q f = tt
-  cell-kept v d Var q f = f
-  cell-kept v d (Val n) q f = f
+  cell-kept v d (Var caller) q f = f
+  cell-kept v d (Val n caller) q f = f
   cell-kept v d (Ref y) q f =
       (f .0, shown-name false (λ owner entr. true) (cell 𝓜 s′ v y) (cell 𝓜 s v y) (referred-shown v d y q (f .1)) ∙ f .1)
   cell-kept v d (Ex o e n st a) q f = f
@@ -202,15 +202,15 @@ module _ (𝓜 : Machine) (s : Tables) (h : Move) (F : Facts 𝓜 s) (K : Keeps 
     var-or-val : (isVar k || isVal k) ≡ true → VarAfter v k
     ref-to-safe : (y : ℕ) → k ≡ Ref y → cell 𝓜 s′ v y ≡ cell 𝓜 s v y → safe 𝓜 s v (cell 𝓜 s v y) ≡ true → VarAfter v k
 
-  pub var-after : (v d : ℕ) → exported 𝓜 s v d ≡ true → cell 𝓜 s v d ≡ Var → VarAfter v (cell 𝓜 s′ v d)
+  pub var-after : (v d : ℕ) → exported 𝓜 s v d ≡ true → (caller : ℕ) → cell 𝓜 s v d ≡ Var caller → VarAfter v (cell 𝓜 s′ v d)
   var-after =
-      stored-each cells-changed (λ v d x y. exported 𝓜 s v d ≡ true → x ≡ Var → VarAfter v y)
-      (λ x q. becomes q (K .var-kept x (ap isVar q)))
-      (λ v d f x q. var-or-val (ap (λ (k : Kind). isVar k || isVal k) q))
+      stored-each cells-changed (λ v d x y. exported 𝓜 s v d ≡ true → (caller : ℕ) → x ≡ Var caller → VarAfter v y)
+      (λ x caller q. becomes caller q (K .var-kept x (ap isVar q)))
+      (λ v d f x caller q. var-or-val (ap (λ (k : Kind). isVar k || isVal k) q))
     where
-      becomes : h .k₀ ≡ Var → VarBecomes 𝓜 s (h .w) (h .k) → VarAfter (h .w) (h .k)
-      becomes q (stays t) = var-or-val t
-      becomes q (bound y e t) =
+      becomes : (caller : ℕ) → h .k₀ ≡ Var caller → VarBecomes 𝓜 s (h .w) (h .k) → VarAfter (h .w) (h .k)
+      becomes caller q (stays t) = var-or-val t
+      becomes caller q (bound y e t) =
           let var : h .c ≡ y → isEx (cell 𝓜 s (h .w) y) ≡ false = λ b. ap isEx (ap (cell 𝓜 s (h .w)) (sym b) ∙ cells-changed .was ∙ q) in
           let is-ex = safe-is-ex s (h .w) (cell 𝓜 s (h .w) y) t in
           ref-to-safe y e (cells-changed .there (h .w) y (λ a b. absurd-bool is-ex (var b))) t
@@ -219,8 +219,8 @@ module _ (𝓜 : Machine) (s : Tables) (h : Move) (F : Facts 𝓜 s) (K : Keeps 
   abbrev GoodEnd : Tables → ℕ → ℕ → Type 0
   GoodEnd t v d = varValOrSafe 𝓜 t v (endKind 𝓜 t v d) ≡ true
 
-  var-good : (v d : ℕ) → exported 𝓜 s v d ≡ true → cell 𝓜 s v d ≡ Var → (isFree (cell 𝓜 s′ v d) ≡ false) × GoodEnd s′ v d
-  var-good v d x q = go (cell 𝓜 s′ v d) refl (var-after v d x q)
+  var-good : (v d : ℕ) → exported 𝓜 s v d ≡ true → (caller : ℕ) → cell 𝓜 s v d ≡ Var caller → (isFree (cell 𝓜 s′ v d) ≡ false) × GoodEnd s′ v d
+  var-good v d x caller q = go (cell 𝓜 s′ v d) refl (var-after v d x caller q)
     where
       go : (k : Kind) → cell 𝓜 s′ v d ≡ k → VarAfter v k → (isFree (cell 𝓜 s′ v d) ≡ false) × GoodEnd s′ v d
       go k i (var-or-val t) =
@@ -243,12 +243,12 @@ module _ (𝓜 : Machine) (s : Tables) (h : Move) (F : Facts 𝓜 s) (K : Keeps 
 
       go : (k : Kind) → cell 𝓜 s v d ≡ k → isFree k ≡ false → (isFree (cell 𝓜 s′ v d) ≡ false) × (GoodEnd s v d → GoodEnd s′ v d)
       go Free q t = absurd-bool refl t
-      go Var q t =
-          let r = var-good v d x q in
+      go (Var caller) q t =
+          let r = var-good v d x caller q in
           (r .0, λ g. r .1)
-      go (Val n) q t =
-          let here = exported-same v d (Val n) x q refl refl in
-          (ap isFree here, λ g. ap (varValOrSafe 𝓜 s′ v) (end-self 𝓜 s′ v d (Val n) here refl))
+      go (Val n caller) q t =
+          let here = exported-same v d (Val n caller) x q refl refl in
+          (ap isFree here, λ g. ap (varValOrSafe 𝓜 s′ v) (end-self 𝓜 s′ v d (Val n caller) here refl))
       go (Ref y) q t =
           let here = exported-same v d (Ref y) x q refl refl in
           let f = cell-fact 𝓜 s F v d q in

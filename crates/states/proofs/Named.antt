@@ -34,8 +34,8 @@ pub record IsEx (k : Kind) : Type 0 where
 -- a test that only an EX can meet
 pub on-ex : (f : ℕ → ℕ → ℕ → Status → Bool → Bool) (k : Kind) → onEx false f k ≡ true → IsEx k
 on-ex f Free h = absurd-bool h refl
-on-ex f Var h = absurd-bool h refl
-on-ex f (Val n) h = absurd-bool h refl
+on-ex f (Var caller) h = absurd-bool h refl
+on-ex f (Val n caller) h = absurd-bool h refl
 on-ex f (Ref c) h = absurd-bool h refl
 on-ex f (Ex o e n st a) h = record { owner = o; entry = e; weight = n; status = st; asking = a; is = refl }
 
@@ -44,8 +44,8 @@ the-ex k h = on-ex (λ o e n st a. true) k h
 
 pub not-on-ex : {X : Type 0} (d : X) (f : ℕ → ℕ → ℕ → Status → Bool → X) (k : Kind) → isEx k ≡ false → onEx d f k ≡ d
 not-on-ex d f Free h = refl
-not-on-ex d f Var h = refl
-not-on-ex d f (Val n) h = refl
+not-on-ex d f (Var caller) h = refl
+not-on-ex d f (Val n caller) h = refl
 not-on-ex d f (Ref c) h = refl
 not-on-ex d f (Ex o e n st a) h = absurd-bool refl h
 
@@ -75,8 +75,8 @@ nowhere-at q = let z : _≡_ {A = ℕ} 0 1 = cc in absurd (omega arith)
 
 pub named-ex : (o e : ℕ) (k : Kind) → namedBy k ≡ At o e → ExOf o e k
 named-ex o e Free q = nowhere-at q
-named-ex o e Var q = nowhere-at q
-named-ex o e (Val n) q = nowhere-at q
+named-ex o e (Var caller) q = nowhere-at q
+named-ex o e (Val n caller) q = nowhere-at q
 named-ex o e (Ref c) q = nowhere-at q
 named-ex o e (Ex o′ e′ n st a) q =
     let same-owner : o′ ≡ o = cc in

@@ -35,46 +35,46 @@ module _ (𝓜 : Machine) (s : Tables) (h : Move) (F : Facts 𝓜 s) (K : Keeps 
   pub data EndKept (v d : ℕ) : Type 0 where
     -- the same value, the same reference, or a VAR that is still one, or has its value
     as-before : namedBy (endKind 𝓜 s′ v d) ≡ namedBy (endKind 𝓜 s v d)
-        → ((n : ℕ) → endKind 𝓜 s v d ≡ Val n → endKind 𝓜 s′ v d ≡ Val n) → EndKept v d
+        → ((n caller : ℕ) → endKind 𝓜 s v d ≡ Val n caller → endKind 𝓜 s′ v d ≡ Val n caller) → EndKept v d
     -- a VAR that is bound to a safe EX
-    newly-bound : (y : ℕ) → cell 𝓜 s v d ≡ Var → endKind 𝓜 s′ v d ≡ cell 𝓜 s v y → safe 𝓜 s v (cell 𝓜 s v y) ≡ true → EndKept v d
+    newly-bound : (y caller : ℕ) → cell 𝓜 s v d ≡ Var caller → endKind 𝓜 s′ v d ≡ cell 𝓜 s v y → safe 𝓜 s v (cell 𝓜 s v y) ≡ true → EndKept v d
 
-  var-end : (v d : ℕ) → exported 𝓜 s v d ≡ true → cell 𝓜 s v d ≡ Var → EndKept v d
-  var-end v d x q = go (cell 𝓜 s′ v d) refl (var-after 𝓜 s h F K v d x q)
+  var-end : (v d : ℕ) → exported 𝓜 s v d ≡ true → (caller : ℕ) → cell 𝓜 s v d ≡ Var caller → EndKept v d
+  var-end v d x caller q = go (cell 𝓜 s′ v d) refl (var-after 𝓜 s h F K v d x caller q)
     where
-      was : endKind 𝓜 s v d ≡ Var
-      was = end-self 𝓜 s v d Var q refl
+      was : endKind 𝓜 s v d ≡ Var caller
+      was = end-self 𝓜 s v d (Var caller) q refl
 
       go : (k : Kind) → cell 𝓜 s′ v d ≡ k → VarAfter 𝓜 s h F K v k → EndKept v d
       go k i (var-or-val t) =
           let r = var-val-end k d t in
           as-before (ap namedBy (end-self 𝓜 s′ v d k i (r .1)) ∙ r .2 ∙ sym (ap namedBy was))
-          (λ n p. let z : _≡_ {A = ℕ} 0 1 = cc was in absurd (omega arith))
-      go k i (ref-to-safe y e same t) = newly-bound y q (end-ref 𝓜 s′ v d y (i ∙ e) ∙ same) t
+          (λ n a p. let z : _≡_ {A = ℕ} 0 1 = cc was in absurd (omega arith))
+      go k i (ref-to-safe y e same t) = newly-bound y caller q (end-ref 𝓜 s′ v d y (i ∙ e) ∙ same) t
 
   pub end-kept : (v d : ℕ) → exported 𝓜 s v d ≡ true → isFree (cell 𝓜 s v d) ≡ false → EndKept v d
   end-kept v d x nf = go (cell 𝓜 s v d) refl nf
     where
       go : (k : Kind) → cell 𝓜 s v d ≡ k → isFree k ≡ false → EndKept v d
       go Free q t = absurd-bool refl t
-      go Var q t = var-end v d x q
-      go (Val n) q t =
-          let here = exported-same 𝓜 s h F K v d (Val n) x q refl refl in
-          let now = end-self 𝓜 s′ v d (Val n) here refl in
-          let was = end-self 𝓜 s v d (Val n) q refl in
-          as-before (ap namedBy (now ∙ sym was)) (λ m p. now ∙ sym was ∙ p)
+      go (Var caller) q t = var-end v d x caller q
+      go (Val n caller) q t =
+          let here = exported-same 𝓜 s h F K v d (Val n caller) x q refl refl in
+          let now = end-self 𝓜 s′ v d (Val n caller) here refl in
+          let was = end-self 𝓜 s v d (Val n caller) q refl in
+          as-before (ap namedBy (now ∙ sym was)) (λ m a p. now ∙ sym was ∙ p)
       go (Ref y) q t =
           let here = exported-same 𝓜 s h F K v d (Ref y) x q refl refl in
           let f = cell-fact 𝓜 s F v d q in
           let now = end-ref 𝓜 s′ v d y here in
           let was = end-ref 𝓜 s v d y q in
           let same = shown-name Nowhere (λ owner entr. At owner entr) (cell 𝓜 s′ v y) (cell 𝓜 s v y) (referred-shown 𝓜 s h F K v d y q (f .1)) in
-          as-before (ap namedBy now ∙ same ∙ sym (ap namedBy was)) (λ n p. absurd-bool (f .1) (ap isEx (sym was ∙ p)))
+          as-before (ap namedBy now ∙ same ∙ sym (ap namedBy was)) (λ n a p. absurd-bool (f .1) (ap isEx (sym was ∙ p)))
       go (Ex o e n st a) q t =
           let x′ = ex-after 𝓜 s h F K v d q (exported-shown 𝓜 s h F K v d x (ap isVar q)) in
           let was = end-self 𝓜 s v d (Ex o e n st a) q refl in
           let now = end-self 𝓜 s′ v d (Ex o e (x′ .weight) (x′ .status) (x′ .asking)) (x′ .is) refl in
-          as-before (ap namedBy now ∙ sym (ap namedBy was)) (λ m p. let z : _≡_ {A = ℕ} 0 1 = cc in absurd (omega arith))
+          as-before (ap namedBy now ∙ sym (ap namedBy was)) (λ m b p. let z : _≡_ {A = ℕ} 0 1 = cc in absurd (omega arith))
 
   -- ---- steps
   -- a live entry's exported cell is not free
@@ -103,7 +103,7 @@ module _ (𝓜 : Machine) (s : Tables) (h : Move) (F : Facts 𝓜 s) (K : Keeps 
     where
       go : (d : ℕ) → namedBy (endKind 𝓜 s a d) ≡ At o e → EndKept a d → namedBy (endKind 𝓜 s′ a d) ≡ At o e
       go d was (as-before p v) = p ∙ was
-      go d was (newly-bound y i p v) = nowhere-at (sym (ap namedBy (end-self 𝓜 s a d Var i refl)) ∙ was)
+      go d was (newly-bound y caller i p v) = nowhere-at (sym (ap namedBy (end-self 𝓜 s a d (Var caller) i refl)) ∙ was)
 
   -- and so does a walk from a place that is live after the move
   pub ahead-kept : (n : ℕ) (p : Place) (o e : ℕ) → LivePlace 𝓜 s′ p → ahead 𝓜 s n p ≡ At o e → ahead 𝓜 s′ n p ≡ At o e
@@ -127,11 +127,11 @@ module _ (𝓜 : Machine) (s : Tables) (h : Move) (F : Facts 𝓜 s) (K : Keeps 
   ends-kept p v l x =
       let there = ahead-kept (x .steps) p (x .owner) (x .number) l (x .there) in
       let alive = ahead-place 𝓜 s′ F′ (x .steps) p l (x .owner) (x .number) there in
-      record { steps = x .steps; owner = x .owner; number = x .number; there = there; value = go (entry 𝓜 s (x .owner) (x .number)) refl (x .value) alive }
+      record { steps = x .steps; owner = x .owner; number = x .number; there = there; caller = x .caller; value = go (entry 𝓜 s (x .owner) (x .number)) refl (x .value) alive }
     where
-      go : (y : Holding) → entry 𝓜 s (x .owner) (x .number) ≡ y → entryEnd 𝓜 s (x .owner) y ≡ Val v
+      go : (y : Holding) → entry 𝓜 s (x .owner) (x .number) ≡ y → entryEnd 𝓜 s (x .owner) y ≡ Val v (x .caller)
           → isLive (entry 𝓜 s′ (x .owner) (x .number)) ≡ true
-          → entryEnd 𝓜 s′ (x .owner) (entry 𝓜 s′ (x .owner) (x .number)) ≡ Val v
+          → entryEnd 𝓜 s′ (x .owner) (entry 𝓜 s′ (x .owner) (x .number)) ≡ Val v (x .caller)
       go Unused i q t = let z : _≡_ {A = ℕ} 0 1 = cc in absurd (omega arith)
       go (Live d n b) i q t =
           let lv : IsLive (entry 𝓜 s (x .owner) (x .number)) = record { cell = d; weight = n; tainted = b; is = i } in
@@ -139,9 +139,9 @@ module _ (𝓜 : Machine) (s : Tables) (h : Move) (F : Facts 𝓜 s) (K : Keeps 
           let r = live-exported (x .owner) (x .number) lv in
           ap (entryEnd 𝓜 s′ (x .owner)) (l′ .2) ∙ value (end-kept (x .owner) d (r .0) (r .1))
         where
-          value : EndKept (x .owner) d → endKind 𝓜 s′ (x .owner) d ≡ Val v
-          value (as-before p w) = w v q
-          value (newly-bound y j p w) =
-              let was = end-self 𝓜 s (x .owner) d Var j refl in
+          value : EndKept (x .owner) d → endKind 𝓜 s′ (x .owner) d ≡ Val v (x .caller)
+          value (as-before p w) = w v (x .caller) q
+          value (newly-bound y caller j p w) =
+              let was = end-self 𝓜 s (x .owner) d (Var caller) j refl in
               let z : _≡_ {A = ℕ} 0 1 = cc was in
               absurd (omega arith)

@@ -65,7 +65,7 @@ module _ (𝓜 : Machine) (s : Tables) (h : Move) (F : Facts 𝓜 s) (K : Keeps 
       go d was names (as-before p v) =
           let step : follow 𝓜 s (At a b) ≡ At o e = was ∙ sym p ∙ names in
           (follow-place 𝓜 s F (At a b) o e step, R .falls a b o e step)
-      go d was names (newly-bound y i p safe-y) =
+      go d was names (newly-bound y caller i p safe-y) =
           let named : namedBy (cell 𝓜 s a y) ≡ At o e = sym (ap namedBy p) ∙ names in
           let z = safe-ex 𝓜 s a o e (cell 𝓜 s a y) safe-y named in
           let alive = named-place 𝓜 s F a y o e named in

@@ -44,8 +44,8 @@ module _ (𝓜 : Machine) (L : Laws 𝓜) (s : Tables) (F : Facts 𝓜 s) (R : R
 
   kind-in-range : (w c : ℕ) (k : Kind) → cell 𝓜 s w c ≡ k → kindInRange 𝓜 s k ≡ true
   kind-in-range w c Free x = refl
-  kind-in-range w c Var x = refl
-  kind-in-range w c (Val n) x = refl
+  kind-in-range w c (Var caller) x = refl
+  kind-in-range w c (Val n caller) x = refl
   kind-in-range w c (Ref d) x =
       lt-ltb d (𝓜 .cells) (cell-inside 𝓜 s w d (ex-not-free (λ o e n st a. true) (cell 𝓜 s w d) (cell-fact 𝓜 s F w c x .1)) .1)
   kind-in-range w c (Ex o e n st a) x = held-in-range o e n (ex-held 𝓜 s w c x) (cell-fact 𝓜 s F w c x .2)
@@ -117,8 +117,8 @@ module _ (𝓜 : Machine) (L : Laws 𝓜) (s : Tables) (F : Facts 𝓜 s) (R : R
   names : (w c : ℕ) (k : Kind) → cell 𝓜 s w c ≡ k → cellNames 𝓜 s w c k ≡ true
   unfolding exesNaming
   names w c Free x = refl
-  names w c Var x = refl
-  names w c (Val n) x = refl
+  names w c (Var caller) x = refl
+  names w c (Val n caller) x = refl
   names w c (Ref d) x = cell-fact 𝓜 s F w c x .1
   names w c (Ex o e n st a) x =
       let f = cell-fact 𝓜 s F w c x in
@@ -141,8 +141,8 @@ module _ (𝓜 : Machine) (L : Laws 𝓜) (s : Tables) (F : Facts 𝓜 s) (R : R
   -- ---- point 4
   awaited : (w c : ℕ) (k : Kind) → cell 𝓜 s w c ≡ k → cellAwaited 𝓜 s w c k ≡ true
   awaited w c Free x = refl
-  awaited w c Var x = refl
-  awaited w c (Val n) x = refl
+  awaited w c (Var caller) x = refl
+  awaited w c (Val n caller) x = refl
   awaited w c (Ref d) x = refl
   awaited w c (Ex o e n st a) x =
       and-i (awaits (readingOf st) (readsOf 𝓜 s w c) (F .reads-one w c ∙ ap (λ (k : Kind). bit (isReading k)) x))

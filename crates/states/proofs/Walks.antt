@@ -45,7 +45,7 @@ ahead-add 𝓜 s (suc n) k p = ap (λ (i : ℕ). ahead 𝓜 s i p) (suc-add n k)
 pub ends-before : (𝓜 : Machine) (s : Tables) (n : ℕ) (p q : Place) (v : ℕ) → ahead 𝓜 s n p ≡ q → EndsIn 𝓜 s q v → EndsIn 𝓜 s p v
 ends-before 𝓜 s n p q v h x =
     let there = ahead-add 𝓜 s n (x .steps) p ∙ ap (ahead 𝓜 s (x .steps)) h ∙ x .there in
-    record { steps = n + x .steps; owner = x .owner; number = x .number; there = there; value = x .value }
+    record { steps = n + x .steps; owner = x .owner; number = x .number; there = there; caller = x .caller; value = x .value }
 
 -- a walk that meets a place is ahead of where it starts
 pub walk-ahead : (𝓜 : Machine) (s : Tables) (o e n : ℕ) (p : Place) → walkMeets (isAt o e) (follow 𝓜 s) n p ≡ true

@@ -33,13 +33,14 @@ module _ (𝓜 : Machine) (s : Tables) where
   ahead zero p = p
   ahead (suc n) p = ahead n (follow p)
 
-  -- the chain from a place ends in VAL(v): so many steps lead to an entry whose cell has that end
+  -- the chain from a place ends in VAL(v), of some caller: so many steps lead to an entry whose cell has that end
   pub record EndsIn (from : Place) (v : ℕ) : Type 0 where
     pub steps : ℕ
     pub owner : ℕ
     pub number : ℕ
     pub there : ahead steps from ≡ At owner number
-    pub value : entryEnd owner (entry 𝓜 s owner number) ≡ Val v
+    pub caller : ℕ
+    pub value : entryEnd owner (entry 𝓜 s owner number) ≡ Val v caller
 
   -- a place leads to the context at the cell c of worker w: so many steps lead to an entry of that cell, and the cell is a VAR or a VAL
   pub record LeadsTo (from : Place) (w c : ℕ) : Type 0 where

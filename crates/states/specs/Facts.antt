@@ -26,8 +26,8 @@ module _ (𝓜 : Machine) (s : Tables) where
   -- a cell of worker w
   abbrev pub CellFact : ℕ → Kind → Type 0
   CellFact w Free = Unit {0}
-  CellFact w Var = w < s .p
-  CellFact w (Val n) = w < s .p
+  CellFact w (Var caller) = w < s .p
+  CellFact w (Val n caller) = w < s .p
   CellFact w (Ref d) = (w < s .p) × (isEx (cell 𝓜 s w d) ≡ true)
   CellFact w (Ex o e n st a) = (w < s .p) × (o ≢ w) × (1 ≤ n)
 
@@ -84,8 +84,8 @@ module _ (𝓜 : Machine) (s : Tables) where
 
   abbrev pub KnownFact : Kind → Type 0
   KnownFact Free = Unit {0}
-  KnownFact Var = Unit {0}
-  KnownFact (Val n) = Unit {0}
+  KnownFact (Var caller) = Unit {0}
+  KnownFact (Val n caller) = Unit {0}
   KnownFact (Ref d) = Unit {0}
   KnownFact (Ex o e n st a) = StatusFact (At o e) st
 

@@ -18,24 +18,32 @@ use Rattle.tables.specs.declared.Place.the-variants.{Nowhere, At}
 -- what f makes of an EX's fields; d of any other cell
 abbrev pub onEx : {A : Type 0} → A → (ℕ → ℕ → ℕ → Status → Bool → A) → Kind → A
 onEx d f Free = d
-onEx d f Var = d
-onEx d f (Val n) = d
+onEx d f (Var caller) = d
+onEx d f (Val n caller) = d
 onEx d f (Ref c) = d
 onEx d f (Ex o e w st a) = f o e w st a
 
--- what f makes of the value of a VAL; d of any other cell
-abbrev pub onVal : {A : Type 0} → A → (ℕ → A) → Kind → A
+-- what f makes of the caller of a VAR; d of any other cell
+abbrev pub onVar : {A : Type 0} → A → (ℕ → A) → Kind → A
+onVar d f Free = d
+onVar d f (Var caller) = f caller
+onVar d f (Val n caller) = d
+onVar d f (Ref c) = d
+onVar d f (Ex o e w st a) = d
+
+-- what f makes of the value and the caller of a VAL; d of any other cell
+abbrev pub onVal : {A : Type 0} → A → (ℕ → ℕ → A) → Kind → A
 onVal d f Free = d
-onVal d f Var = d
-onVal d f (Val n) = f n
+onVal d f (Var caller) = d
+onVal d f (Val n caller) = f n caller
 onVal d f (Ref c) = d
 onVal d f (Ex o e w st a) = d
 
 -- what f makes of the cell that a REF names; d of any other cell
 abbrev pub onRef : {A : Type 0} → A → (ℕ → A) → Kind → A
 onRef d f Free = d
-onRef d f Var = d
-onRef d f (Val n) = d
+onRef d f (Var caller) = d
+onRef d f (Val n caller) = d
 onRef d f (Ref c) = f c
 onRef d f (Ex o e w st a) = d
 
@@ -45,24 +53,20 @@ onNames d f g k = onEx (onRef d f k) g k
 
 abbrev pub isFree : Kind → Bool
 isFree Free = true
-isFree Var = false
-isFree (Val n) = false
+isFree (Var caller) = false
+isFree (Val n caller) = false
 isFree (Ref c) = false
 isFree (Ex o e w st a) = false
 
 abbrev pub isVar : Kind → Bool
-isVar Free = false
-isVar Var = true
-isVar (Val n) = false
-isVar (Ref c) = false
-isVar (Ex o e w st a) = false
+isVar k = onVar false (λ caller. true) k
 
 abbrev pub isVal : Kind → Bool
-isVal Free = false
-isVal Var = false
-isVal (Val n) = true
-isVal (Ref c) = false
-isVal (Ex o e w st a) = false
+isVal k = onVal false (λ n caller. true) k
+
+-- a VAR or a VAL whose caller is a; "a REF or EX has none of its own"
+abbrev pub hasCaller : ℕ → Kind → Bool
+hasCaller a k = onVal (onVar false (λ caller. eqb caller a) k) (λ n caller. eqb caller a) k
 
 abbrev pub isEx : Kind → Bool
 isEx k = onEx false (λ o e w st a. true) k

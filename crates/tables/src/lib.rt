@@ -25,6 +25,9 @@ pub const FIRST_WEIGHT: u32 = 1024;
 
 pub const CEILING: u32 = 1048576;
 
+// The highest caller.
+pub const LAST_CALLER: u32 = 255;
+
 // An EX is idle, reading, or known with its value.
 pub enum Status {
     Idle,
@@ -32,11 +35,17 @@ pub enum Status {
     Known(u32),
 }
 
-// What a cell holds. A REF names a cell of the same worker; an EX an entry of its owner's.
+// What a cell holds. A VAR and a VAL carry the caller who pays for their time; a REF names a cell of the same worker, an EX an entry of its
+// owner's.
 pub enum Kind {
     Free,
-    Var,
-    Val(u32),
+    Var {
+        caller: u8,
+    },
+    Val {
+        n: u32,
+        caller: u8,
+    },
     Ref(u8),
     Ex {
         owner: u8,
@@ -130,7 +139,7 @@ pub enum Place {
 // The calls, with their arguments.
 pub enum Call {
     Start { p: u8 },
-    New { w: u8 },
+    New { w: u8, caller: u32 },
     Set { w: u8, c: u8, n: u32 },
     Bind { w: u8, c: u8, x: u8 },
     Export { w: u8, c: u8, to: u8 },
@@ -143,7 +152,7 @@ pub enum Call {
     Bound,
 }
 
-// Why a call is refused, in the order of the table of refusal numbers.
+// Why a call is refused, in the order of the refusal numbers.
 pub enum Refusal {
     WorkerCount,
     NotSound,
@@ -160,6 +169,7 @@ pub enum Refusal {
     NoSlot,
     NoMessage,
     NotReady,
+    NoCaller,
 }
 
 // A call's answer: done with a value, sent with its slot, or without a value.

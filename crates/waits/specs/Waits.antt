@@ -70,8 +70,8 @@ module _ (𝓜 : Machine) (s : Tables) where
   -- a cell's messages, where it waits for one
   awaited : (w c : ℕ) (k : Kind) → ((not (isReading k) || eqb (readsOf 𝓜 s w c) 1) && (not (isAsking k) || eqb (asksOf 𝓜 s w c) 1)) ≡ cellAwaited 𝓜 s w c k
   awaited w c Free = refl
-  awaited w c Var = refl
-  awaited w c (Val n) = refl
+  awaited w c (Var caller) = refl
+  awaited w c (Val n caller) = refl
   awaited w c (Ref d) = refl
   awaited w c (Ex o e n st a) = refl
 

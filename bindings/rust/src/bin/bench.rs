@@ -137,7 +137,7 @@ fn nearly_empty() -> Input {
     let mut round = 0;
     while !generator.full() {
         for call in [
-            Call::New { w: 0 },
+            Call::New { w: 0, caller: 0 },
             Call::Export { w: 0, c: 0, to: 1 },
             Call::Deliver { s: 0 },
             Call::Read { w: 1, c: 0 },

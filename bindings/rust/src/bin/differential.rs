@@ -8,6 +8,9 @@
 //! are run. Without `--cases` at least the first 180 are run, so that all there
 //! is to meet is met. Exit status: 0 all the same, 1 a difference, 2 something
 //! was not met or an argument is wrong.
+//!
+//! No answer holds a caller: a wrong refusal 16 shows here, a caller that is
+//! lost or changed does not.
 
 use endrusp::generate::{self, Case, Coverage, EVENTS, POSSIBLE};
 use endrusp::{model, shrink};

@@ -1,5 +1,6 @@
 -- `deliver` meets its contract: its refusals in order, and what it does. Assumes nothing.
 use mathlib.Core.Path.{refl}
+use borrow.Author.Tests.{not-false}
 use Rattle.tables.specs.Machine.{eight, tables}
 use Rattle.changes.specs.BelowCeiling.{message-weight}
 use Rattle.rules.specs.Refusals.{ready}
@@ -22,5 +23,7 @@ deliver-spec =
     (decides eight t _ _ _ _
     (rw (c .before .before .before .refuse-if2 .ensures, d .is-ready .ensures, end, d .before .refuse-if .ensures)
     (rw (d .before .before .is-empty .ensures, d .before .before .before .state-refusal .ensures, e .is-sound .ensures, m)))
-    (λ h. rw (c .before .before .deliver-message .ensures t refl refl h (rw m (message-weight _ _ h _)) end, m))) in
+    (λ h.
+    let is-sound = not-false _ (h .0) in
+    rw (c .before .before .deliver-message .ensures t refl refl is-sound (rw m (message-weight _ _ is-sound _)) end, m))) in
     tie.close (search tie.spec)

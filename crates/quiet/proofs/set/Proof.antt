@@ -12,10 +12,10 @@ set-spec =
     let returns : tie.Need-returns = λ c.
     let d = c .before .before .before .before in
     let e = d .before .before .before .before in
-    let t = tables (e .before .args .s) in
+    let t = tables (e .before .before .args .s) in
     rw (c .replied .ensures, c .before .answer .ensures)
     (decides eight t _ _ _ _
-    (rw (c .before .before .before .refuse-if .ensures, d .is-var .ensures, d .before .cell-refusals .ensures)
-    (rw (d .before .before .is-sound .ensures, d .before .before .before .cell-at .ensures t refl)))
-    (λ h. c .before .before .with-cell .ensures)) in
+    (rw (d .refuse-if .ensures, d .before .is-var .ensures, d .before .before .cell-refusals .ensures)
+    (rw (d .before .before .before .is-sound .ensures, e .cell-at .ensures t refl)))
+    (λ h. rw (c .before .before .with-cell .ensures, c .before .before .before .valued .ensures, e .cell-at .ensures t refl))) in
     tie.close (search tie.spec)

@@ -1,5 +1,6 @@
 -- `export` meets its contract: its refusals in order, and what it does. Assumes nothing.
 use mathlib.Core.Path.{refl}
+use borrow.Author.Tests.{not-false}
 use Rattle.tables.specs.Machine.{eight, tables}
 use Rattle.tables.specs.Look.{endKind}
 use Rattle.rules.specs.Calls.{export}
@@ -21,5 +22,5 @@ export-spec =
     rw (c .replied .ensures, c .before .answer .ensures)
     (decides eight t _ _ _ _
     (rw (c .before .before .before .end-refusals .ensures, d .send-refusals .ensures, d .before .is-sound .ensures, room, u, look))
-    (λ h. rw (c .before .before .export-end .ensures (rw u (entry-weight _ _ h _ _)), room, u, look))) in
+    (λ h. rw (c .before .before .export-end .ensures (rw u (entry-weight _ _ (not-false _ (h .0)) _ _)), room, u, look))) in
     tie.close (search tie.spec)

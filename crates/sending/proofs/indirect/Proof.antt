@@ -1,5 +1,6 @@
 -- `indirect` meets its contract: its refusals in order, and what it does. Assumes nothing.
 use mathlib.Core.Path.{refl}
+use borrow.Author.Tests.{not-false}
 use Rattle.tables.specs.Machine.{eight, tables}
 use Rattle.rules.specs.Calls.{indirect}
 use Rattle.changes.specs.BelowCeiling.{entry-weight}
@@ -22,5 +23,5 @@ indirect-spec =
     (decides eight t _ _ _ _
     (rw (d .by-location-refusals .ensures, d .before .refuse-if .ensures, d .before .before .is-ex .ensures)
     (rw (d .before .before .before .send-refusals .ensures, e .is-sound .ensures, room, u, look)))
-    (λ h. rw (c .before .before .by-location .ensures (rw u (entry-weight _ _ h _ _)), c .before .before .before .is-safe .ensures t refl, room, u, look))) in
+    (λ h. rw (c .before .before .by-location .ensures (rw u (entry-weight _ _ (not-false _ (h .0)) _ _)), c .before .before .before .is-safe .ensures t refl, room, u, look))) in
     tie.close (search tie.spec)

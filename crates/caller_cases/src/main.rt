@@ -1,0 +1,191 @@
+// What becomes of callers (W-201): calls, each as its frame with its answer, on states that are reached and on states made by hand, and
+// between them every cell that is not free: its worker and number, what it is, a VAL's value, and last the caller of a VAR or a VAL.
+use cases_parts::ex;
+use cases_parts::idle;
+use cases_parts::live;
+use changes::all_free;
+use frames::Decoded;
+use lookups::put_cell;
+use lookups::put_entry;
+use lookups::put_message;
+use tables::ALL_CELLS;
+use tables::CELL_ROW;
+use tables::Kind;
+use tables::Outcome;
+use tables::State;
+use tables::Status;
+
+// ---- lines
+
+// The last two, four or eight digits of a number, after a space or not.
+fn write_byte(before: &[u8], n: u8) {
+    let line = frames::answer_line(Outcome::Done(n as u32));
+    io::write_all(1, before);
+    io::write_all(1, &line[8..10]);
+}
+
+fn write_number(before: &[u8], n: u32) {
+    let line = frames::answer_line(Outcome::Done(n));
+    io::write_all(1, before);
+    io::write_all(1, &line[2..10]);
+}
+
+fn write_cell(w: u8, c: u8, k: Kind) {
+    match k {
+        Kind::Free => return,
+        _ => write_byte(b"", w),
+    }
+    write_byte(b"", c);
+    match k {
+        Kind::Free => {}
+        Kind::Var { caller } => write_byte(b" VAR ", caller),
+        Kind::Val { n, caller } => {
+            write_number(b" VAL ", n);
+            write_byte(b" ", caller);
+        }
+        Kind::Ref(d) => write_byte(b" REF ", d),
+        Kind::Ex { owner, entry, .. } => {
+            write_byte(b" EX ", owner);
+            write_byte(b" ", entry);
+        }
+    }
+    io::write_all(1, b"\n");
+}
+
+// Every cell that is not free.
+fn show(s: State) -> State {
+    let cells = s.cells;
+    for i in 0..ALL_CELLS {
+        let x = cells[i];
+        let k = x.kind;
+        write_cell((i / CELL_ROW) as u8, (i % CELL_ROW) as u8, k);
+    }
+    s
+}
+
+// A call by its frame, its answer, and the state after it.
+fn call(s: State, frame: &[u8]) -> State {
+    io::write_all(1, frame);
+    let Decoded::Frame(q) = frames::decode(frame) else {
+        io::write_all(1, b" is no frame\n");
+        return s;
+    };
+    let reply = calls::step(s, q);
+    let outcome = reply.outcome;
+    let line = frames::answer_line(outcome);
+    io::write_all(1, b" ");
+    io::write_all(1, &line);
+    let next = reply.state;
+    next
+}
+
+// ---- states made by hand
+
+// Two workers. Worker 0: a VAR of caller 255 and a VAL of caller 17, both exported, a VAR of caller 1; worker 1: a reading EX of the VAR, an EX
+// of the VAL, a VAR of caller 2.
+fn waiting() -> State {
+    let mut s = put_cell(all_free(2), 0, 0, Kind::Var { caller: 255 });
+    s = put_cell(s, 0, 1, Kind::Val { n: 7, caller: 17 });
+    s = put_cell(s, 0, 2, Kind::Var { caller: 1 });
+    s = put_cell(s, 1, 0, ex(0, 0, 1024, Status::Reading, false));
+    s = put_cell(s, 1, 1, idle(0, 1, 5));
+    s = put_cell(s, 1, 2, Kind::Var { caller: 2 });
+    s = put_entry(s, 0, 0, live(0, 1024));
+    s = put_entry(s, 0, 1, live(1, 5));
+    put_message(s, 0, cases_parts::read(1, 0, 0, 0))
+}
+
+// Two workers, no free cell at worker 1: each is a VAR, its caller the number of the cell.
+fn crowded() -> State {
+    let mut s = all_free(2);
+    for c in 0..32u8 {
+        s = put_cell(s, 1, c, Kind::Var { caller: c });
+    }
+    s
+}
+
+// Two workers; an entry on which nothing is held.
+fn unsound() -> State {
+    let s = put_cell(all_free(2), 0, 0, Kind::Var { caller: 4 });
+    put_entry(s, 0, 0, live(0, 1))
+}
+
+// ---- the cases
+
+// "`new` takes a caller number, 0 to 255", "VAR and VAL cells carry it, `set` keeps it".
+fn carried_and_kept() {
+    let mut s = call(all_free(0), b"0101000000000000");
+    s = call(s, b"0200000000000000");
+    s = call(s, b"02000000000000ff");
+    s = call(s, b"0200000000000100");
+    s = show(call(s, b"02000000ffffffff"));
+    s = call(s, b"0300010000000007");
+    s = call(s, b"03000000ffffffff");
+    show(call(s, b"0300010000000008")); // a VAL
+}
+
+// "A bind loses the variable's own caller": the cell of caller 9 becomes a REF; dropped and given out again it has its new caller.
+fn lost() -> State {
+    let mut s = call(all_free(0), b"0102000000000000");
+    s = call(s, b"0200000000000005");
+    s = call(s, b"0500000100000000"); // export
+    s = call(s, b"0b00000000000000");
+    s = show(call(s, b"0201000000000009"));
+    s = show(call(s, b"0401010000000000")); // bind
+    s = call(s, b"0801010000000000"); // drop
+    show(call(s, b"0201000000000003"))
+}
+
+// A read sent, answered and brought, a second export, an ask and its supply leave it.
+fn left_by_messages() -> State {
+    let mut s = call(lost(), b"0901000000000000"); // read
+    s = call(s, b"0300000000000007"); // set
+    s = call(s, b"0b00000000000000");
+    s = call(s, b"0b00000000000000");
+    s = show(call(s, b"0901000000000000")); // known
+    s = call(s, b"0500000100000000"); // export
+    s = call(s, b"0b00000000000000");
+    s = call(s, b"0a01000000000000"); // ask
+    s = call(s, b"0b00000000000000");
+    call(s, b"0b00000000000000")
+}
+
+// And an indirect export and a transfer home; freed and given out again the cell of caller 5 has its new caller.
+fn left_until_freed() {
+    let mut s = call(left_by_messages(), b"0601000000000000"); // indirect
+    s = show(call(s, b"0b00000000000000"));
+    s = call(s, b"0700010100000000"); // transfer
+    s = call(s, b"0b00000000000000");
+    s = call(s, b"0801000000000000"); // drop
+    s = call(s, b"0b00000000000000");
+    s = call(s, b"0800000000000000"); // drop
+    show(call(s, b"020000000000000b"));
+}
+
+fn of_hand_made_cells() {
+    let mut s = call(show(waiting()), b"0b00000000000000"); // a VAR
+    s = call(s, b"0300000000000009"); // set
+    s = call(s, b"0b00000000000000");
+    s = call(s, b"0b00000000000000");
+    s = call(s, b"0500010100000000"); // export
+    show(call(s, b"0401020100000000")); // bind
+}
+
+// "16 for a caller above 255, after 3 and before 12"; 2 before both.
+fn refused_in_order() {
+    let mut s = call(crowded(), b"02010000000000ff"); // 12
+    s = call(s, b"0201000000000100"); // 16 and 12
+    s = call(s, b"02010000ffffffff"); // 16 and 12
+    s = call(s, b"0202000000000100"); // 3 and 16
+    s = call(s, b"0208000000000000"); // 3
+    show(call(s, b"0200000000000100")); // 16
+    s = call(unsound(), b"0200000000000100"); // 2 and 16
+    show(call(s, b"0202000000000100")); // 2, 3 and 16
+}
+
+fn main() {
+    carried_and_kept();
+    left_until_freed();
+    of_hand_made_cells();
+    refused_in_order();
+}
