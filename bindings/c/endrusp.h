@@ -1,4 +1,4 @@
-/* Endrusp for C: the text program over a buffer that the caller lends.
+/* Endrusp for C: the text program over a buffer that is lent.
  * Link libforeign.a, which `rt staticlib foreign` writes to target/staticlib/. */
 #ifndef ENDRUSP_H
 #define ENDRUSP_H

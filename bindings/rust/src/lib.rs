@@ -3,8 +3,8 @@
 //!
 //! [`run`] and [`run_into`] run the text program of document 01, with W-201 of
 //! document 02, in the linked library, the archive `libforeign.a`. They need the
-//! feature `linked`, which is on by default. [`model`] is the same rules written
-//! a second time, plainly and apart from the library; it links nothing.
+//! feature `linked`, which is on by default. [`model`] has the same rules,
+//! written a second time, plainly and apart from the library; it links nothing.
 //!
 //! ```
 //! # #[cfg(feature = "linked")]
@@ -76,7 +76,7 @@ mod linked {
         out
     }
 
-    /// Runs a text over a buffer that the caller lends. How many bytes of it
+    /// Runs a text over a buffer that is lent. How many bytes of it
     /// were written: they are what [`run`] gives back.
     ///
     /// # Errors

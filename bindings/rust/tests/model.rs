@@ -505,7 +505,7 @@ fn a_caller_above_255_is_refused_after_3_and_before_12() {
     assert_eq!(refused(&mut state, bad(0)), Refusal::NoSuchCaller);
     assert_eq!(refused(&mut state, worst(0)), Refusal::NoSuchCaller);
     assert_eq!(refused(&mut state, bad(1)), Refusal::NoSuchCaller);
-    // 3 and 16 and 12.
+    // 3 and 16, worker 0 still without a free cell.
     assert_eq!(refused(&mut state, bad(2)), Refusal::NoSuchWorker);
 
     // 16 and 12: every free cell of worker 1 is booked.

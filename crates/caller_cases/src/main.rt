@@ -1,8 +1,9 @@
-// What becomes of callers (W-201): calls, each as its frame with its answer, on states that are reached and on states made by hand, and
-// between them every cell that is not free: its worker and number, what it is, a VAL's value, and last the caller of a VAR or a VAL.
+// What becomes of callers (W-201): calls on states that are reached and on states made by hand, each as its frame with its answer, and after it
+// every cell of the state that is not free: its worker and number, what it is, a VAL's value, and last the caller of a VAR or a VAL.
 use cases_parts::ex;
 use cases_parts::idle;
 use cases_parts::live;
+use cases_parts::reference;
 use changes::all_free;
 use frames::Decoded;
 use lookups::put_cell;
@@ -17,7 +18,7 @@ use tables::Status;
 
 // ---- lines
 
-// The last two, four or eight digits of a number, after a space or not.
+// A byte as two digits and a number as eight, after some text.
 fn write_byte(before: &[u8], n: u8) {
     let line = frames::answer_line(Outcome::Done(n as u32));
     io::write_all(1, before);
@@ -76,7 +77,7 @@ fn call(s: State, frame: &[u8]) -> State {
     io::write_all(1, b" ");
     io::write_all(1, &line);
     let next = reply.state;
-    next
+    show(next)
 }
 
 // ---- states made by hand
@@ -95,10 +96,12 @@ fn waiting() -> State {
     put_message(s, 0, cases_parts::read(1, 0, 0, 0))
 }
 
-// Two workers, no free cell at worker 1: each is a VAR, its caller the number of the cell.
+// Two workers. Worker 1 has one free cell, the last, and a Reference comes to it; each of its other cells is a VAR, its caller its number.
 fn crowded() -> State {
-    let mut s = all_free(2);
-    for c in 0..32u8 {
+    let mut s = put_cell(all_free(2), 0, 0, Kind::Var { caller: 255 });
+    s = put_entry(s, 0, 0, live(0, 1024));
+    s = put_message(s, 0, reference(1, 0, 0, 1024));
+    for c in 0..31u8 {
         s = put_cell(s, 1, c, Kind::Var { caller: c });
     }
     s
@@ -118,22 +121,30 @@ fn carried_and_kept() {
     s = call(s, b"0200000000000000");
     s = call(s, b"02000000000000ff");
     s = call(s, b"0200000000000100");
-    s = show(call(s, b"02000000ffffffff"));
+    s = call(s, b"02000000ffffffff");
     s = call(s, b"0300010000000007");
     s = call(s, b"03000000ffffffff");
-    show(call(s, b"0300010000000008")); // a VAL
+    call(s, b"0300010000000008"); // a VAL
 }
 
-// "A bind loses the variable's own caller": the cell of caller 9 becomes a REF; dropped and given out again it has its new caller.
-fn lost() -> State {
+// An exported VAR of caller 9 and one of caller 10 that is not exported, beside an EX of a VAR of caller 5.
+fn two_variables() -> State {
     let mut s = call(all_free(0), b"0102000000000000");
     s = call(s, b"0200000000000005");
     s = call(s, b"0500000100000000"); // export
     s = call(s, b"0b00000000000000");
-    s = show(call(s, b"0201000000000009"));
-    s = show(call(s, b"0401010000000000")); // bind
-    s = call(s, b"0801010000000000"); // drop
-    show(call(s, b"0201000000000003"))
+    s = call(s, b"0201000000000009");
+    s = call(s, b"020100000000000a");
+    s = call(s, b"0501010000000000"); // export
+    call(s, b"0b00000000000000")
+}
+
+// "A bind loses the variable's own caller": each becomes a REF to the EX; a cell that is dropped and given out again has its new caller.
+fn lost() -> State {
+    let mut s = call(two_variables(), b"0401010000000000"); // bind
+    s = call(s, b"0401020100000000"); // bind to the other REF's end
+    s = call(s, b"0801020000000000"); // drop
+    call(s, b"0201000000000003")
 }
 
 // A read sent, answered and brought, a second export, an ask and its supply leave it.
@@ -142,7 +153,7 @@ fn left_by_messages() -> State {
     s = call(s, b"0300000000000007"); // set
     s = call(s, b"0b00000000000000");
     s = call(s, b"0b00000000000000");
-    s = show(call(s, b"0901000000000000")); // known
+    s = call(s, b"0901000000000000"); // known
     s = call(s, b"0500000100000000"); // export
     s = call(s, b"0b00000000000000");
     s = call(s, b"0a01000000000000"); // ask
@@ -150,37 +161,42 @@ fn left_by_messages() -> State {
     call(s, b"0b00000000000000")
 }
 
-// And an indirect export and a transfer home; freed and given out again the cell of caller 5 has its new caller.
+// And an indirect export, a transfer home, drops and releases; freed and given out again the cell of caller 5 has its new caller.
 fn left_until_freed() {
     let mut s = call(left_by_messages(), b"0601000000000000"); // indirect
-    s = show(call(s, b"0b00000000000000"));
-    s = call(s, b"0700010100000000"); // transfer
     s = call(s, b"0b00000000000000");
+    s = call(s, b"0700020100000000"); // transfer
+    s = call(s, b"0b00000000000000");
+    s = call(s, b"0800010000000000"); // drop
+    s = call(s, b"0b00000000000000");
+    s = call(s, b"0801010000000000"); // drop of the REF
     s = call(s, b"0801000000000000"); // drop
     s = call(s, b"0b00000000000000");
     s = call(s, b"0800000000000000"); // drop
-    show(call(s, b"020000000000000b"));
+    call(s, b"020000000000000b");
 }
 
+// On cells made by hand: a Read that is not ready, set, the Read answered and brought, export, bind.
 fn of_hand_made_cells() {
-    let mut s = call(show(waiting()), b"0b00000000000000"); // a VAR
+    let mut s = call(show(waiting()), b"0b00000000000000");
     s = call(s, b"0300000000000009"); // set
     s = call(s, b"0b00000000000000");
     s = call(s, b"0b00000000000000");
     s = call(s, b"0500010100000000"); // export
-    show(call(s, b"0401020100000000")); // bind
+    call(s, b"0401020100000000"); // bind
 }
 
-// "16 for a caller above 255, after 3 and before 12"; 2 before both.
+// "16 for a caller above 255, after 3 and before 12", where the free cell is booked and where there is none; 2 before both.
 fn refused_in_order() {
     let mut s = call(crowded(), b"02010000000000ff"); // 12
     s = call(s, b"0201000000000100"); // 16 and 12
+    s = call(s, b"0b00000000000000");
+    s = call(s, b"02010000000000ff"); // 12
     s = call(s, b"02010000ffffffff"); // 16 and 12
     s = call(s, b"0202000000000100"); // 3 and 16
-    s = call(s, b"0208000000000000"); // 3
-    show(call(s, b"0200000000000100")); // 16
+    call(s, b"0200000000000100"); // 16
     s = call(unsound(), b"0200000000000100"); // 2 and 16
-    show(call(s, b"0202000000000100")); // 2, 3 and 16
+    call(s, b"0202000000000100"); // 2, 3 and 16
 }
 
 fn main() {

@@ -1,6 +1,6 @@
--- Demand 3, and that a reference keeps its context, of the functions' own replies: whatever replies the twelve calls and `step` give, so long
--- as each meets its contract, the promise holds of the states in them. `Post` is a contract as Rattle reads it from the source. Assumes
--- nothing.
+-- Demand 3, and that a reference keeps its context and a context its caller, of the functions' own replies: whatever replies the twelve calls and
+-- `step` give, so long as each meets its contract, the promise holds of the states in them. `Post` is a contract as Rattle reads it from the source.
+-- Assumes nothing.
 use Prim.Native.Nat.{ℕ, zero, suc, _+_, _≤_, _<_}
 use native.Mathlib.Omega.{arith}
 use mathlib.Core.Path.{_≡_, refl, sym, ap, ap₂, subst, _∙_}

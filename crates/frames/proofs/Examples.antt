@@ -29,8 +29,8 @@ unfolding says bytes decode numberAfter digitIn byCall
 frames = (refl, refl, refl, refl, refl)
 
 -- bytes that are not used, a number that is not used, an upper-case digit, an unknown call, a carriage return, an empty line
-no-frames : (says "0102010000000000" ≡ NoFrame) × (says "0201010000000000" ≡ NoFrame) × (says "0c00000000000001" ≡ NoFrame) × (says "0C00000000000000" ≡ NoFrame)
-    × (says "0d00000000000000" ≡ NoFrame) × (says "0c00000000000000\r" ≡ NoFrame) × (says "" ≡ NoFrame)
+no-frames : (says "0102010000000000" ≡ NoFrame) × (says "0201010000000000" ≡ NoFrame) × (says "0c00000000000001" ≡ NoFrame)
+    × (says "0C00000000000000" ≡ NoFrame) × (says "0d00000000000000" ≡ NoFrame) × (says "0c00000000000000\r" ≡ NoFrame) × (says "" ≡ NoFrame)
 unfolding says bytes decode numberAfter digitIn byCall
 no-frames = (refl, refl, refl, refl, refl, refl, refl)
 
@@ -40,7 +40,8 @@ unfolding bytes linesOf
 lines = (refl, refl, refl)
 
 -- lines of the run's output, of a later number, and the two others
-answers : (answerLine (Done 7) ≡ bytes "0000000007\n") × (answerLine (Refused NotReady) ≡ bytes "0f00000000\n") × (answerLine (Refused NoCaller) ≡ bytes "1000000000\n") × (answerLine (Sent 0) ≡ bytes "4000000000\n")
+answers : (answerLine (Done 7) ≡ bytes "0000000007\n") × (answerLine (Refused NotReady) ≡ bytes "0f00000000\n")
+    × (answerLine (Refused NoCaller) ≡ bytes "1000000000\n") × (answerLine (Sent 0) ≡ bytes "4000000000\n")
     × (noFrameLine ≡ bytes "ff00000000\n") × (tooLongLine ≡ bytes "ffffffffff\n")
 unfolding bytes lineOf
 answers = (refl, refl, refl, refl, refl, refl)

@@ -18,7 +18,7 @@ lineOf code value =
     ∷ digitAt value 3 ∷ digitAt value 2 ∷ digitAt value 1 ∷ digitAt value 0
     ∷ 10 ∷ []
 
--- "code (00 done, 01 to 0f refused, by number, .., 40 Sent, 41 Waiting, 42 Unbound ..) and value"
+-- "code (00 done, 01 to 0f refused, by number, later numbers likewise, 40 Sent, 41 Waiting, 42 Unbound ..) and value"
 abbrev pub answerLine : Outcome → List ℕ
 answerLine o = lineOf (codeOf o) (valueOf o)
 

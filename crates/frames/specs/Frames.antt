@@ -31,8 +31,8 @@ abbrev pub usesOnly : Fields → ℕ → Bool → Call → Decoded
 usesOnly f bytes number call = cond (unusedAreZero f bytes number) (Frame call) NoFrame
 
 -- "Calls: 01 start (P), 02 new, 03 set, 04 bind, 05 export, 06 indirect, 07 transfer, 08 drop, 09 read, 0a ask, 0b deliver (slot),
--- 0c bound. The bytes are the call's arguments in order, n is the number", and so is the caller of new (W-201): the frame by its call, from 00, which is none, on; with
--- how many of the bytes the call uses, and whether the number
+-- 0c bound. The bytes are the call's arguments in order, n is the number"; W-201: the caller of new is "in the frame's 32-bit field". The frame
+-- by its call, from 00, which is none, on; with how many of the bytes the call uses, and whether the number
 unfoldable pub byCall : Fields → List Decoded
 byCall f =
     NoFrame

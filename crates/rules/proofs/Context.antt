@@ -1,4 +1,5 @@
--- A reference keeps its context: what refers to an entry refers to a live one, and a move leaves what a live entry leads to. Assumes nothing.
+-- A reference keeps its context, and a context its caller: what refers to an entry refers to a live one, and a move leaves what a live entry
+-- leads to, and the caller of a VAR or a VAL that stays one. Assumes nothing.
 use Prim.Native.Nat.{ℕ, _≤_}
 use native.Mathlib.Omega.{arith}
 use mathlib.Core.Path.{_≡_, refl, sym, ap, ap₂, subst, _∙_}
@@ -58,9 +59,9 @@ module _ (𝓜 : Machine) (s : Tables) (F : Facts 𝓜 s) where
 module _ (𝓜 : Machine) (s : Tables) (h : Move) (F : Facts 𝓜 s) (K : Keeps 𝓜 s h) where
   -- a VAR or a VAL that stays one keeps its caller
   pub keeps-callers : KeepsCallers 𝓜 s (next 𝓜 s h)
-  keeps-callers w c a =
-      stored-each (cell-stored 𝓜 s h (F .sized) (K .placed)) (λ v d x y. hasCaller a x ≡ true → (isVar y || isVal y) ≡ true → hasCaller a y ≡ true)
-      (K .caller-kept a) (λ v d f t u. t) w c
+  keeps-callers w c who =
+      stored-each (cell-stored 𝓜 s h (F .sized) (K .placed)) (λ v d x y. hasCaller who x ≡ true → (isVar y || isVal y) ≡ true → hasCaller who y ≡ true)
+      (K .caller-kept who) (λ v d f t u. t) w c
 
   -- an exported VAR or VAL
   continues : (w c : ℕ) → exported 𝓜 s w c ≡ true → (isVar (cell 𝓜 s w c) || isVal (cell 𝓜 s w c)) ≡ true → Continues 𝓜 s (next 𝓜 s h) w c
@@ -170,5 +171,5 @@ naming-made 𝓜 s t F (moved h K on C) = naming-kept 𝓜 s h F K
 
 -- ---- callers
 pub callers-made : (𝓜 : Machine) (s t : Tables) → Facts 𝓜 s → Makes 𝓜 s t → KeepsCallers 𝓜 s t
-callers-made 𝓜 s t F (nothing) = λ w c a h u. h
+callers-made 𝓜 s t F (nothing) = λ w c who h u. h
 callers-made 𝓜 s t F (moved h K on C) = keeps-callers 𝓜 s h F K

@@ -1,4 +1,4 @@
--- Demand 3 at document 01's sizes and weights, of document 01's rules: the conclusion to cite. Assumes nothing.
+-- Demand 3 at document 01's sizes and weights: the conclusion to cite. Assumes nothing.
 use native.Mathlib.Omega.{arith}
 use Rattle.tables.specs.Machine.{eight}
 use Rattle.states.specs.Machines.{Laws}

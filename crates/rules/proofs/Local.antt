@@ -79,7 +79,7 @@ module _ (𝓜 : Machine) (L : Laws 𝓜) (s : Tables) (F : Facts 𝓜 s) where
         busy-kept = λ b v. absurd (free-not-busy 𝓜 L s F w c q b);
         var-kept = λ x v. absurd-bool v refl;
         ex-kept = λ a b t y. absurd-bool t refl;
-        caller-kept = λ a t u. absurd-bool t refl;
+        caller-kept = λ who t u. absurd-bool t refl;
         reference-kept = inl refl;
         ex-new = λ d a b t y. absurd-bool t refl;
         reads = λ v d. refl;
@@ -101,9 +101,10 @@ module _ (𝓜 : Machine) (L : Laws 𝓜) (s : Tables) (F : Facts 𝓜 s) where
       cell-makes w c Free _ (new-moves w c _ (u .0) r (f .0) (f .1)) (λ t. tt))
 
   -- ---- set and bind: a VAR gets its value, or becomes a REF
-  var-moves : (w c caller : ℕ) (k : Kind) → cell 𝓜 s w c ≡ Var caller → CellFact 𝓜 (next 𝓜 s (cellMove 𝓜 s w c (Var caller) k 0 (message s 0) (message s 0))) w k
-      → (exported 𝓜 s w c ≡ true → VarBecomes 𝓜 s w k)
-      → ((a : ℕ) → hasCaller a (Var caller) ≡ true → (isVar k || isVal k) ≡ true → hasCaller a k ≡ true) → isEx k ≡ false → isFree k ≡ false → CellMoves 𝓜 L s w c (Var caller) k 0 (message s 0) (message s 0)
+  var-moves : (w c caller : ℕ) (k : Kind) → cell 𝓜 s w c ≡ Var caller
+      → CellFact 𝓜 (next 𝓜 s (cellMove 𝓜 s w c (Var caller) k 0 (message s 0) (message s 0))) w k → (exported 𝓜 s w c ≡ true → VarBecomes 𝓜 s w k)
+      → ((who : ℕ) → hasCaller who (Var caller) ≡ true → (isVar k || isVal k) ≡ true → hasCaller who k ≡ true) → isEx k ≡ false → isFree k ≡ false
+      → CellMoves 𝓜 L s w c (Var caller) k 0 (message s 0) (message s 0)
   var-moves w c caller k q ok becomes caller-ok ne nf =
       let inside = cell-inside 𝓜 s w c (ap isFree q) in
       record {
@@ -135,7 +136,7 @@ module _ (𝓜 : Machine) (L : Laws 𝓜) (s : Tables) (F : Facts 𝓜 s) where
       let u = worker-used w (search) in
       let q = var-is (cell 𝓜 s w c) (not-false (search)) in
       let k = valued n (Var (q .0)) in
-      rw (q .1) (cell-makes w c (Var (q .0)) k (var-moves w c (q .0) k (q .1) (u .0) (λ x. stays refl) (λ a t v. t) refl refl) (λ t. tt)))
+      rw (q .1) (cell-makes w c (Var (q .0)) k (var-moves w c (q .0) k (q .1) (u .0) (λ x. stays refl) (λ who t v. t) refl refl) (λ t. tt)))
 
   pub bind-makes : (w c x : ℕ) → Makes 𝓜 s (made 𝓜 s (bind 𝓜 s w c x) .after)
   unfolding bind endKind
@@ -148,7 +149,10 @@ module _ (𝓜 : Machine) (L : Laws 𝓜) (s : Tables) (F : Facts 𝓜 s) where
       let ex : isEx (cell 𝓜 s w y) ≡ true = not-false (search) in
       let guarded : (exported 𝓜 s w c && not (safe 𝓜 s w (cell 𝓜 s w y))) ≡ false = search in
       cell-makes w c (Var (q .0)) (Ref y)
-      (var-moves w c (q .0) (Ref y) (q .1) (u .0, ref-ex (q .0) (q .1) ex) (λ e. bound y refl (not-false (rw e at guarded))) (λ a t v. absurd-bool v refl) refl refl)
+      (var-moves w c (q .0) (Ref y) (q .1) (u .0, ref-ex (q .0) (q .1) ex)
+      (λ e. bound y refl (not-false (rw e at guarded)))
+      (λ who t v. absurd-bool v refl)
+      refl refl)
       (λ t. tt))
     where
       ref-ex : (caller : ℕ) → cell 𝓜 s w c ≡ Var caller → isEx (cell 𝓜 s w (end 𝓜 s w x)) ≡ true
@@ -192,7 +196,7 @@ module _ (𝓜 : Machine) (L : Laws 𝓜) (s : Tables) (F : Facts 𝓜 s) where
         busy-kept = λ b v. absurd-bool b (f .idle);
         var-kept = λ x v. absurd-bool x (quiet .0);
         ex-kept = λ a b t y. absurd-bool y refl;
-        caller-kept = λ a t u. absurd-bool u refl;
+        caller-kept = λ who t u. absurd-bool u refl;
         reference-kept = f .reference-kept;
         ex-new = λ d a b t y. absurd-bool t refl;
         reads = λ v d. omega (arith, f .reads v d, ap (λ (z : Bool). cond (eqb w v && eqb c d) (bit z) 0) no-read);

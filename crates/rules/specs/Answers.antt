@@ -1,4 +1,4 @@
--- What a call gives: its answer and what it changes; document 01's number of each refusal, code and value of each answer. Assumes nothing.
+-- What a call gives: its answer and what it changes; the documents' number of each refusal, code and value of each answer. Assumes nothing.
 use Prim.Native.Nat.{ℕ}
 use mathlib.Core.Bool.{Bool, true, false}
 use mathlib.Core.List.{List, [], _∷_}

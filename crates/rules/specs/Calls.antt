@@ -128,7 +128,7 @@ module _ (𝓜 : Machine) (s : Tables) where
       let c = lowestFreeCell 𝓜 s w in
       checked (newRefusals 𝓜 s w caller) (done c (OfCell w c (Var caller)))
 
-  -- "set(w, c, n): VAR becomes VAL(n)."
+  -- "set(w, c, n): VAR becomes VAL(n)." W-201: "`set` keeps it".
   unfoldable pub set : ℕ → ℕ → ℕ → Effect
   set w c n = checked (setRefusals 𝓜 s w c) (done 0 (OfCell w c (valued n (cell 𝓜 s w c))))
 

@@ -1,5 +1,6 @@
--- Document 01's numbered cases K1 to K10 as one table, the wrong turnings that they leave open as another, and the whole run printed in its
--- "text program", as calls with their codes and values; and W-201's callers. A case begins from a state, and each row is a call with its answer or a look at what then stands in the tables. Assumes nothing.
+-- Document 01's numbered cases K1 to K10 as one table, the wrong turnings that they leave open as another, W-201's callers as a third, and the
+-- whole run printed in document 01's "text program", as calls with their codes and values. A case begins from a state, and each row is a call
+-- with its answer or a look at what then stands in the tables. Assumes nothing.
 use Prim.Native.Nat.{ℕ}
 use mathlib.Core.Bool.{Bool, true, false, _&&_, _||_, not}
 use mathlib.Core.List.{List, [], _∷_, _++_}
@@ -292,6 +293,7 @@ carried =
     ∷ gives (Deliver 0) 0 0
     ∷ gives (New 1 9) 0 1
     ∷ callerIs 1 1 9
+    ∷ gives (Export 1 1 0) 0 0
     ∷ gives (Bind 1 1 0) 0 0
     ∷ callerLost 1 1
     ∷ callerIs 0 0 255
@@ -342,7 +344,7 @@ holdsFrom s ((supplyWeighs k n) ∷ rows) =
     isSupply (message s k) && eqb (messageWeight (message s k)) n && holdsFrom s rows
 holdsFrom s ((liveWeighs w e n) ∷ rows) = eqb (entryWeight (entry eight s w e)) n && holdsFrom s rows
 holdsFrom s ((entryFree w e) ∷ rows) = isUnused (entry eight s w e) && holdsFrom s rows
-holdsFrom s ((callerIs w c a) ∷ rows) = hasCaller a (cell eight s w c) && holdsFrom s rows
+holdsFrom s ((callerIs w c who) ∷ rows) = hasCaller who (cell eight s w c) && holdsFrom s rows
 holdsFrom s ((callerLost w c) ∷ rows) =
     not (isVar (cell eight s w c) || isVal (cell eight s w c)) && holdsFrom s rows
 

@@ -1,4 +1,5 @@
--- Demand 3, sentence by sentence, that every sound state stays sound, and what the whole is for, as statements about the rules of a machine.
+-- Demand 3, sentence by sentence, that every sound state stays sound, what the whole is for, and that a context keeps its caller, as statements
+-- about the rules of a machine.
 -- Nothing else is on this page; the proofs are in proofs/. The order's own words stand in quotation marks.
 --
 -- "Take any sequence of calls, refused ones included, from an accepted start and with no second start in it" is `Reached` of the rules: every
@@ -185,7 +186,7 @@ module _ (𝓜 : Machine) where
   -- ---- W-201: "VAR and VAL cells carry it, `set` keeps it": whatever the call, a VAR or a VAL that stays one keeps its caller.
   abbrev pub KeepsCallers : Tables → Tables → Type 0
   KeepsCallers s s′ =
-      (w c a : ℕ) → hasCaller a (cell 𝓜 s w c) ≡ true → (isVar (cell 𝓜 s′ w c) || isVal (cell 𝓜 s′ w c)) ≡ true → hasCaller a (cell 𝓜 s′ w c) ≡ true
+      (w c who : ℕ) → hasCaller who (cell 𝓜 s w c) ≡ true → (isVar (cell 𝓜 s′ w c) || isVal (cell 𝓜 s′ w c)) ≡ true → hasCaller who (cell 𝓜 s′ w c) ≡ true
 
   abbrev pub CallersKept : Type 0
   CallersKept = (s : Tables) → Reached 𝓜 s → (q : Call) → isStart q ≡ false → KeepsCallers s (step 𝓜 s q .after)

@@ -108,7 +108,7 @@ module _ (𝓜 : Machine) (L : Laws 𝓜) (s : Tables) where
     pub busy-kept : busy 𝓜 s w c ≡ true → isVar k₀ ≡ false → shown k ≡ shown k₀
     pub var-kept : exported 𝓜 s w c ≡ true → isVar k₀ ≡ true → VarBecomes 𝓜 s w k
     pub ex-kept : (a b : ℕ) → exNames a b k₀ ≡ true → isEx k ≡ true → exNames a b k ≡ true
-    pub caller-kept : (a : ℕ) → hasCaller a k₀ ≡ true → (isVar k || isVal k) ≡ true → hasCaller a k ≡ true
+    pub caller-kept : (who : ℕ) → hasCaller who k₀ ≡ true → (isVar k || isVal k) ≡ true → hasCaller who k ≡ true
     pub reference-kept : (m ≡ m₀) ⊎ ReferenceGoes w k m₀
     pub ex-new : (d a b : ℕ) → exNames a b k ≡ true → exNames a b (cell 𝓜 s w d) ≡ true → d ≡ c
     pub reads : (v d : ℕ)
@@ -174,7 +174,7 @@ module _ (𝓜 : Machine) (L : Laws 𝓜) (s : Tables) where
           busy-kept = λ b v. refl;
           var-kept = λ x v. absurd-bool v refl;
           ex-kept = λ x y t u. t;
-          caller-kept = λ x t u. t;
+          caller-kept = λ who t u. t;
           reference-kept = inr (M .reference-kept);
           ex-new = λ d x y t u. F .ex-once w d c x y u (ap (exNames x y) (M .old-cell) ∙ t);
           reads = M .reads;
@@ -213,7 +213,7 @@ module _ (𝓜 : Machine) (L : Laws 𝓜) (s : Tables) where
           busy-kept = λ b v. refl;
           var-kept = λ t v. stays (or-l (isVal (cell 𝓜 s 0 0)) v);
           ex-kept = λ a b t u. t;
-          caller-kept = λ a t u. t;
+          caller-kept = λ who t u. t;
           reference-kept = inr (M .reference-kept 0 (cell 𝓜 s 0 0));
           entry-kept = M .entry-kept;
           ex-new = λ d a b t u. F .ex-once 0 d 0 a b u t;

@@ -127,7 +127,8 @@ module _ (𝓜 : Machine) (s : Tables) (h : Move) (F : Facts 𝓜 s) (K : Keeps 
   ends-kept p v l x =
       let there = ahead-kept (x .steps) p (x .owner) (x .number) l (x .there) in
       let alive = ahead-place 𝓜 s′ F′ (x .steps) p l (x .owner) (x .number) there in
-      record { steps = x .steps; owner = x .owner; number = x .number; there = there; caller = x .caller; value = go (entry 𝓜 s (x .owner) (x .number)) refl (x .value) alive }
+      let value = go (entry 𝓜 s (x .owner) (x .number)) refl (x .value) alive in
+      record { steps = x .steps; owner = x .owner; number = x .number; there = there; caller = x .caller; value = value }
     where
       go : (y : Holding) → entry 𝓜 s (x .owner) (x .number) ≡ y → entryEnd 𝓜 s (x .owner) y ≡ Val v (x .caller)
           → isLive (entry 𝓜 s′ (x .owner) (x .number)) ≡ true

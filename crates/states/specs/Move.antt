@@ -83,7 +83,7 @@ pub record Keeps (𝓜 : Machine) (s : Tables) (h : Move) : Type 0 where
   -- an EX that stays one names the entry that it named
   pub ex-kept : (a b : ℕ) → exNames a b (h .k₀) ≡ true → isEx (h .k) ≡ true → exNames a b (h .k) ≡ true
   -- a VAR or a VAL that stays one keeps its caller
-  pub caller-kept : (a : ℕ) → hasCaller a (h .k₀) ≡ true → (isVar (h .k) || isVal (h .k)) ≡ true → hasCaller a (h .k) ≡ true
+  pub caller-kept : (who : ℕ) → hasCaller who (h .k₀) ≡ true → (isVar (h .k) || isVal (h .k)) ≡ true → hasCaller who (h .k) ≡ true
   pub reference-kept : (h .m ≡ h .m₀) ⊎ ReferenceGoes (h .w) (h .k) (h .m₀)
   -- a live entry that stays live keeps its cell and its taint
   pub entry-kept : isLive (h .x₀) ≡ true → isLive (h .x) ≡ true → (cellOf (h .x) ≡ cellOf (h .x₀)) × (isTainted (h .x) ≡ isTainted (h .x₀))

@@ -64,9 +64,9 @@ isVar k = onVar false (λ caller. true) k
 abbrev pub isVal : Kind → Bool
 isVal k = onVal false (λ n caller. true) k
 
--- a VAR or a VAL whose caller is a; "a REF or EX has none of its own"
+-- a VAR or a VAL of this caller; "a REF or EX has none of its own"
 abbrev pub hasCaller : ℕ → Kind → Bool
-hasCaller a k = onVal (onVar false (λ caller. eqb caller a) k) (λ n caller. eqb caller a) k
+hasCaller who k = onVal (onVar false (λ caller. eqb caller who) k) (λ n caller. eqb caller who) k
 
 abbrev pub isEx : Kind → Bool
 isEx k = onEx false (λ o e w st a. true) k

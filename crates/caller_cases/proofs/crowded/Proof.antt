@@ -8,9 +8,9 @@ abbrev Inv-loop : tie.InvT-loop
 Inv-loop s₀ c₀ s c = Unit {0}
 
 abbrev μ-loop : tie.MeasureT-loop
-μ-loop s₀ c₀ s c = 32 - c
+μ-loop s₀ c₀ s c = 31 - c
 
 pub crowded-spec : {M : Type 1} → statement M
 crowded-spec =
     tie.close
-    (tie.spec Inv-loop μ-loop _ (λ c. search needs) _ (λ c. search needs) (λ c. search needs) _ (λ c. search needs))
+    (tie.spec Inv-loop μ-loop _ _ _ _ _ _ (λ c. search needs) _ (λ c. search needs) (λ c. search needs) _ (λ c. search needs))

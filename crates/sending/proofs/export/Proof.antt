@@ -22,5 +22,7 @@ export-spec =
     rw (c .replied .ensures, c .before .answer .ensures)
     (decides eight t _ _ _ _
     (rw (c .before .before .before .end-refusals .ensures, d .send-refusals .ensures, d .before .is-sound .ensures, room, u, look))
-    (λ h. rw (c .before .before .export-end .ensures (rw u (entry-weight _ _ (not-false _ (h .0)) _ _)), room, u, look))) in
+    (λ h.
+    let is-sound = not-false _ (h .0) in
+    rw (c .before .before .export-end .ensures (rw u (entry-weight _ _ is-sound _ _)), room, u, look))) in
     tie.close (search tie.spec)

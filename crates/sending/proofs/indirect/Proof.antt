@@ -23,5 +23,7 @@ indirect-spec =
     (decides eight t _ _ _ _
     (rw (d .by-location-refusals .ensures, d .before .refuse-if .ensures, d .before .before .is-ex .ensures)
     (rw (d .before .before .before .send-refusals .ensures, e .is-sound .ensures, room, u, look)))
-    (λ h. rw (c .before .before .by-location .ensures (rw u (entry-weight _ _ (not-false _ (h .0)) _ _)), c .before .before .before .is-safe .ensures t refl, room, u, look))) in
+    (λ h.
+    let is-sound = not-false _ (h .0) in
+    rw (c .before .before .by-location .ensures (rw u (entry-weight _ _ is-sound _ _)), c .before .before .before .is-safe .ensures t refl, room, u, look))) in
     tie.close (search tie.spec)
