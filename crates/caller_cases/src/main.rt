@@ -1,5 +1,6 @@
-// What becomes of callers (W-201): calls on states that are reached and on states made by hand, each as its frame with its answer, and after it
-// every cell of the state that is not free: its worker and number, what it is, a VAL's value, and last the caller of a VAR or a VAL.
+// What becomes of callers (W-201): calls on states that are reached, from a start, and on states made by hand, by their names. A call is written
+// as its frame with its answer, and after it, and after a name, every cell that is not free: its worker and number, what it is, a VAL's value,
+// and last the caller of a VAR or a VAL.
 use cases_parts::ex;
 use cases_parts::idle;
 use cases_parts::live;
@@ -85,6 +86,7 @@ fn call(s: State, frame: &[u8]) -> State {
 // Two workers. Worker 0: a VAR of caller 255 and a VAL of caller 17, both exported, a VAR of caller 1; worker 1: a reading EX of the VAR, an EX
 // of the VAL, a VAR of caller 2.
 fn waiting() -> State {
+    io::write_all(1, b"waiting\n");
     let mut s = put_cell(all_free(2), 0, 0, Kind::Var { caller: 255 });
     s = put_cell(s, 0, 1, Kind::Val { n: 7, caller: 17 });
     s = put_cell(s, 0, 2, Kind::Var { caller: 1 });
@@ -93,24 +95,26 @@ fn waiting() -> State {
     s = put_cell(s, 1, 2, Kind::Var { caller: 2 });
     s = put_entry(s, 0, 0, live(0, 1024));
     s = put_entry(s, 0, 1, live(1, 5));
-    put_message(s, 0, cases_parts::read(1, 0, 0, 0))
+    show(put_message(s, 0, cases_parts::read(1, 0, 0, 0)))
 }
 
 // Two workers. Worker 1 has one free cell, the last, and a Reference comes to it; each of its other cells is a VAR, its caller its number.
 fn crowded() -> State {
+    io::write_all(1, b"crowded\n");
     let mut s = put_cell(all_free(2), 0, 0, Kind::Var { caller: 255 });
     s = put_entry(s, 0, 0, live(0, 1024));
     s = put_message(s, 0, reference(1, 0, 0, 1024));
     for c in 0..31u8 {
         s = put_cell(s, 1, c, Kind::Var { caller: c });
     }
-    s
+    show(s)
 }
 
 // Two workers; an entry on which nothing is held.
 fn unsound() -> State {
+    io::write_all(1, b"unsound\n");
     let s = put_cell(all_free(2), 0, 0, Kind::Var { caller: 4 });
-    put_entry(s, 0, 0, live(0, 1))
+    show(put_entry(s, 0, 0, live(0, 1)))
 }
 
 // ---- the cases
@@ -178,7 +182,7 @@ fn left_until_freed() {
 
 // On cells made by hand: a Read that is not ready, set, the Read answered and brought, export, bind.
 fn of_hand_made_cells() {
-    let mut s = call(show(waiting()), b"0b00000000000000");
+    let mut s = call(waiting(), b"0b00000000000000");
     s = call(s, b"0300000000000009"); // set
     s = call(s, b"0b00000000000000");
     s = call(s, b"0b00000000000000");

@@ -13,4 +13,5 @@ abbrev μ-loop : tie.MeasureT-loop
 pub crowded-spec : {M : Type 1} → statement M
 crowded-spec =
     tie.close
-    (tie.spec Inv-loop μ-loop _ _ _ _ _ _ (λ c. search needs) _ (λ c. search needs) (λ c. search needs) _ (λ c. search needs))
+    (tie.spec Inv-loop μ-loop (λ c. search needs) _ _ _ _ _ _ _ (λ c. search needs) _ (λ c. search needs)
+    (λ c. search needs) _ _ (λ c. search needs))
