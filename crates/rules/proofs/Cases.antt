@@ -19,6 +19,6 @@ pub wrong-turnings : hold wrongTurnings ≡ true
 unfolding hold
 wrong-turnings = refl
 
-pub callers-carried : hold callers ≡ true
+pub callers-carried : hold (callers ∷ []) ≡ true
 unfolding hold
 callers-carried = refl

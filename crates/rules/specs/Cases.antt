@@ -1,4 +1,4 @@
--- Document 01's numbered cases K1 to K10 as one table, the wrong turnings that they leave open as another, W-201's callers as a third, and the
+-- Document 01's numbered cases K1 to K10 as one table, the wrong turnings that they leave open as another, a case of W-201's callers, and the
 -- whole run printed in document 01's "text program", as calls with their codes and values. A case begins from a state, and each row is a call
 -- with its answer or a look at what then stands in the tables. Assumes nothing.
 use Prim.Native.Nat.{ℕ}
@@ -168,7 +168,8 @@ numberedCases = k1 ∷ k2 ∷ k3 ∷ k4-k5 ∷ k6 ∷ k7 ∷ k8 ∷ k9 ∷ k10 �
 
 -- ---- wrong turnings that the numbered cases leave open
 
--- "Booking forgotten in new: a Reference arrives and finds no cell." Worker 1 has one free cell, its last, and a Reference comes to it.
+-- "Booking forgotten in new: a Reference arrives and finds no cell." Worker 1 has one free cell, its last, and a Reference comes to it. W-201: 16
+-- comes "before 12".
 unfoldable pub nearlyFull : Tables
 nearlyFull =
     record {
@@ -186,6 +187,7 @@ bookedCell =
     (gives (New 0 0) 0 0
     ∷ gives (Export 0 0 1) 0 0
     ∷ gives (New 1 0) 12 0
+    ∷ gives (New 1 256) 16 0
     ∷ gives (Deliver 0) 0 31
     ∷ [])
 
@@ -280,35 +282,27 @@ abbrev pub wrongTurnings : List Case
 wrongTurnings = bookedCell ∷ knownKeepsWeight ∷ refusedStartCloses ∷ refusedUnsound ∷ ceilingReached ∷ busyCells ∷ keptByAReference ∷ []
 
 -- ---- W-201: "`new` takes a caller number, 0 to 255 ..; VAR and VAL cells carry it, `set` keeps it, a REF or EX has none of its own .. A bind
--- loses the variable's own caller"; "16 for a caller above 255, after 3 and before 12"
-abbrev pub carried : Case
-carried =
-    case (allFree eight 2)
-    (gives (New 0 255) 0 0
+-- loses the variable's own caller"; "16 for a caller above 255, after 3". A VAR of caller 255 of worker 0, one of caller 9 of worker 1, both
+-- exported, and each an EX of the other's.
+unfoldable pub called : Tables
+called =
+    let vars = putCell eight (putCell eight (allFree eight 2) 0 0 (Var 255)) 1 0 (Var 9) in
+    let exes = putCell eight (putCell eight vars 0 1 (Ex 1 0 5 Idle false)) 1 1 (Ex 0 0 5 Idle false) in
+    putEntry eight (putEntry eight exes 0 0 (Live 0 5 false)) 1 0 (Live 0 5 false)
+
+abbrev pub callers : Case
+callers =
+    case called
+    (gives (New 0 255) 0 2
+    ∷ callerIs 0 2 255
     ∷ gives (New 0 256) 16 0
     ∷ gives (New 2 256) 3 0
     ∷ gives (Set 0 0 7) 0 0
     ∷ callerIs 0 0 255
-    ∷ gives (Export 0 0 1) 0 0
-    ∷ gives (Deliver 0) 0 0
-    ∷ gives (New 1 9) 0 1
-    ∷ callerIs 1 1 9
-    ∷ gives (Export 1 1 0) 0 0
-    ∷ gives (Bind 1 1 0) 0 0
-    ∷ callerLost 1 1
+    ∷ gives (Bind 1 0 1) 0 0
+    ∷ callerLost 1 0
     ∷ callerIs 0 0 255
     ∷ [])
-
-abbrev pub callerBeforeRoom : Case
-callerBeforeRoom =
-    case nearlyFull
-    (gives (New 1 255) 0 31
-    ∷ gives (New 1 255) 12 0
-    ∷ gives (New 1 256) 16 0
-    ∷ [])
-
-abbrev pub callers : List Case
-callers = carried ∷ callerBeforeRoom ∷ []
 
 -- ---- "A whole run, input then output, line for line"
 abbrev pub wholeRun : Case
@@ -333,7 +327,7 @@ wholeRun =
 
 -- every row holds, one after the other
 unfoldable pub holdsFrom : Tables → List Row → Bool
-unfolding allBelow sumBelow lowestFrom walkMeets eachFrom total cell entry end endKind safe entryOf exported referred busy lowestFreeCell lowestFreeEntry lowestEmptySlot exNaming freeCells booked liveEntries putCell putEntry putMessage checked exesNaming entriesNaming readsOf asksOf follow reached held point1 point2 point3 point4 point5 point6 sound entryToUse ready allFree start new set bind export indirect transfer drop read ask B bound arrivalCell deliverHome deliverAway deliverRelease deliverRead deliverAnswer deliverSupply deliverAsk deliverMessage deliver step atCeiling nearlyFull nothingHeld belowCeiling
+unfolding allBelow sumBelow lowestFrom walkMeets eachFrom total cell entry end endKind safe entryOf exported referred busy lowestFreeCell lowestFreeEntry lowestEmptySlot exNaming freeCells booked liveEntries putCell putEntry putMessage checked exesNaming entriesNaming readsOf asksOf follow reached held point1 point2 point3 point4 point5 point6 sound entryToUse ready allFree start new set bind export indirect transfer drop read ask B bound arrivalCell deliverHome deliverAway deliverRelease deliverRead deliverAnswer deliverSupply deliverAsk deliverMessage deliver step atCeiling nearlyFull nothingHeld belowCeiling called
 holdsFrom s [] = true
 holdsFrom s ((gives q code value) ∷ rows) =
     let r = step eight s q in
