@@ -1,5 +1,6 @@
 //! A plain model of document 01, "What is being built, with exact rules", and of
-//! what document 02 changes in it: W-201, "Charge time to callers".
+//! what document 02 changes in it: W-201, "Charge time to callers", and W-202,
+//! "Cost report".
 //!
 //! The model is written from the documents and from nothing else, so that it
 //! can be compared with the library. It is meant to be read beside them: every
@@ -37,6 +38,9 @@ pub const TOO_LONG: &[u8] = b"ffffffffff\n";
 
 /// The value of a drop that sends no message: "any other kind: value 64".
 pub const NOTHING_SENT: u32 = 64;
+
+/// W-202: "At most 65,535 charges."
+pub const MOST_CHARGES: usize = 65_535;
 
 // ---------------------------------------------------------------- the state
 
@@ -200,6 +204,8 @@ pub enum Refusal {
     NotReady = 15,
     /// W-201: "a caller above 255".
     NoSuchCaller = 16,
+    /// W-202: "17 for a longer list".
+    TooManyCharges = 17,
 }
 
 impl Refusal {
@@ -325,6 +331,11 @@ impl State {
     fn ex_naming(&self, w: u8, name: EntryName) -> Option<u8> {
         let cells = &self.cells[usize::from(w)];
         lowest(cells, |cell| matches!(cell, Cell::Ex(ex) if (ex.owner, ex.entry) == name))
+    }
+
+    /// "E the number of live entries."
+    fn live_entries(&self) -> usize {
+        self.entries.as_flattened().iter().flatten().count()
     }
 
     fn lowest_free_cell(&self, w: u8) -> Option<u8> {
@@ -879,7 +890,7 @@ impl State {
     /// Supply, 2 for each Ask, and E + 1 for each Read, E the number of live
     /// entries."
     fn bound(&self) -> Outcome {
-        let live_entries = self.entries.as_flattened().iter().flatten().count();
+        let live_entries = self.live_entries();
         let sum: usize = self
             .messages()
             .map(|message| match message {
@@ -1012,6 +1023,101 @@ impl State {
         let left = entry.weight - weight;
         let holds = (left > 0).then_some(Entry { weight: left, ..entry });
         self.set_entry(owner, number, holds);
+    }
+}
+
+// ---------------------------------------------------------- the cost report
+
+/// W-202: "charges, each a worker, a cell and a signed 32-bit amount;
+/// corrections are negative." The worker and the cell may be any numbers.
+#[derive(Clone, Copy, Debug, PartialEq, Eq)]
+#[allow(missing_docs)]
+pub struct Charge {
+    pub worker: u8,
+    pub cell: u8,
+    pub amount: i32,
+}
+
+/// W-202: "The report gives 256 signed 64-bit totals, the unplaced total, and
+/// how many charges were placed and how many unplaced."
+#[derive(Clone, Debug, PartialEq, Eq)]
+pub struct Report {
+    /// Done, with value 0, or refused.
+    pub outcome: Outcome,
+    /// The total of each caller, 0 to 255.
+    pub totals: [i64; 256],
+    /// The total of the charges that are unplaced.
+    pub unplaced: i64,
+    /// How many charges were placed.
+    pub placed: u32,
+    /// How many charges were unplaced.
+    pub missed: u32,
+}
+
+impl Report {
+    /// A report in which "all totals and both numbers of charges" are 0.
+    fn zeros(outcome: Outcome) -> Report {
+        Report { outcome, totals: [0; 256], unplaced: 0, placed: 0, missed: 0 }
+    }
+}
+
+impl State {
+    /// W-202: "A charge belongs to the caller found by following ends and
+    /// references from its cell to a VAR or VAL." `None` where a charge on the
+    /// cell is unplaced. The state is sound, the numbers may be any.
+    pub fn payer(&self, worker: u8, cell: u8) -> Option<u8> {
+        // "A charge whose worker or cell number is out of range, or whose cell
+        // is free, is unplaced": what other calls refuse with 3 and 5.
+        self.test_worker(worker).ok()?;
+        self.test_cell(worker, cell).ok()?;
+
+        // "so is one whose chain has not reached a VAR or VAL after as many
+        // references as there are live entries". One that reaches it with the
+        // last of these is placed.
+        let mut left = self.live_entries();
+        let (mut w, mut c) = (worker, cell);
+        loop {
+            match self.end_cell(w, c) {
+                Cell::Var { caller } | Cell::Val { caller, .. } => return Some(caller),
+                Cell::Ex(_) if left == 0 => return None,
+                Cell::Ex(ex) => {
+                    // An EX is followed whether or not its value is known.
+                    left -= 1;
+                    (w, c) = (ex.owner, self.live_entry(ex.owner, ex.entry).cell);
+                }
+                Cell::Free | Cell::Ref(_) => {
+                    unreachable!("points 2 and 3: what is named is not free, a REF names an EX")
+                }
+            }
+        }
+    }
+
+    /// W-202: "Input is any state and a lent list of charges". "An empty list
+    /// gives zeros. Refusals: 2; then 17 for a longer list; both leave all
+    /// totals and both numbers of charges 0."
+    pub fn report(&self, charges: &[Charge]) -> Report {
+        if !self.is_sound() {
+            return Report::zeros(Err(Refusal::NotSound));
+        }
+        if charges.len() > MOST_CHARGES {
+            return Report::zeros(Err(Refusal::TooManyCharges));
+        }
+
+        let mut report = Report::zeros(Ok(Answer::Done(0)));
+        for charge in charges {
+            let amount = i64::from(charge.amount);
+            match self.payer(charge.worker, charge.cell) {
+                Some(caller) => {
+                    report.totals[usize::from(caller)] += amount;
+                    report.placed += 1;
+                }
+                None => {
+                    report.unplaced += amount;
+                    report.missed += 1;
+                }
+            }
+        }
+        report
     }
 }
 

@@ -1,6 +1,6 @@
--- Demand 3, and that a reference keeps its context and a context its caller, of the functions' own replies: whatever replies the twelve calls and
--- `step` give, so long as each meets its contract, the promise holds of the states in them. `Post` is a contract as Rattle reads it from the source.
--- Assumes nothing.
+-- Demand 3, that a reference keeps its context, a context its caller and a cell its payer, of the functions' own replies: whatever replies the
+-- twelve calls and `step` give, so long as each meets its contract, the promise holds of the states in them. `Post` is a contract as Rattle reads it
+-- from the source. Assumes nothing.
 use Prim.Native.Nat.{ℕ, zero, suc, _+_, _≤_, _<_}
 use native.Mathlib.Omega.{arith}
 use mathlib.Core.Path.{_≡_, refl, sym, ap, ap₂, subst, _∙_}
@@ -18,7 +18,7 @@ use Rattle.tables.specs.declared.Kind.the-variants.{Ex}
 use Rattle.tables.specs.declared.Outcome.the-variants.{Done}
 use Rattle.tables.specs.declared.Place.the-variants.{At}
 use Rattle.tables.specs.Machine.{Tables, eight, tables, state}
-use Rattle.tables.specs.Parts.{exNames, isLive, entryWeight}
+use Rattle.tables.specs.Parts.{isFree, callerOf, exNames, isLive, entryWeight}
 use Rattle.tables.specs.Look.{cell, entry, message}
 use Rattle.rules.specs.Answers.{made, reply, succeeds, valueOf, checked}
 use Rattle.states.specs.Sound.{held, sound}
@@ -26,8 +26,9 @@ use Rattle.states.specs.Chains.{EndsIn}
 use Rattle.rules.specs.Calls.{bound, B}
 use Rattle.rules.specs.Deliver.{deliver}
 use Rattle.states.specs.Machines.{Sized}
-use Rattle.rules.specs.Step.{isStart, step, drained, successes, Reached, begun, after}
-use Rattle.rules.specs.Statements.{messageNames, ComesToAnEnd, holdsReady, AtRest, readOfUnbound, KnownWith, KeepsNaming, KeepsCallers, KeepsContext}
+use Rattle.rules.specs.Step.{isStart, isBind, step, drained, successes, Reached, begun, after}
+use Rattle.rules.specs.Payers.{isCaller, payer, CellLeadsTo}
+use Rattle.rules.specs.Statements.{messageNames, ComesToAnEnd, holdsReady, AtRest, readOfUnbound, KnownWith, KeepsNaming, KeepsCallers, KeepsContext, KeepsPayers, MovesPayers}
 use Rattle.rules.proofs.Eight.{demand-3-of-eight, calls-keep-sound-of-eight}
 use Rattle.quiet.proofs.start.Reads as start-contract
 use Rattle.quiet.proofs.new.Reads as new-contract
@@ -98,7 +99,8 @@ pub record Taken (s : State) (k : ℕ) (t : State) : Type 0 where
   pub replies : Replies s (Deliver k) answer
   pub leaves : answer .state ≡ t
 
--- what is promised of such a state: demand 3, that a reference keeps its context and a context its caller, B being what `bound` answers
+-- what is promised of such a state: demand 3, that a reference keeps its context, a context its caller and a cell its payer, B being what `bound`
+-- answers
 pub record Promised (s : State) : Type 0 where
   pub is-sound : sound eight (tables s) ≡ true
   pub weights : (w e : ℕ) → entryWeight (entry eight (tables s) w e) ≡ held eight (tables s) w e
@@ -125,6 +127,12 @@ pub record Promised (s : State) : Type 0 where
       → (o e : ℕ) → isLive (entry eight (tables s) o e) ≡ true → isLive (entry eight (tables (r .state)) o e) ≡ true
       → KeepsContext eight (tables s) (tables (r .state)) o e
   pub callers-kept : (q : Call) → isStart q ≡ false → (r : Reply) → Replies s q r → KeepsCallers eight (tables s) (tables (r .state))
+  pub every-cell-is-paid : (w c : ℕ) → isCaller (payer eight (tables s) w c) ≡ not (isFree (cell eight (tables s) w c))
+  pub context-pays : (w c v d : ℕ) → CellLeadsTo eight (tables s) w c v d → payer eight (tables s) w c ≡ callerOf (cell eight (tables s) v d)
+  pub only-bind-moves-payers : (q : Call) → isStart q ≡ false → isBind q ≡ false → (r : Reply) → Replies s q r
+      → KeepsPayers eight (tables s) (tables (r .state))
+  pub bind-moves-payers : (w c x : ℕ) (r : Reply) → Replies s (Bind w c x) r → succeeds (r .outcome) ≡ true
+      → MovesPayers eight (tables s) (tables (r .state)) w c x
 
 -- ---- replies are the rules' results
 next-is : (s : State) (q : Call) (r : Reply) → Replies s q r → tables (r .state) ≡ step eight (tables s) q .after
@@ -242,6 +250,14 @@ promised s g =
           subst (λ (t : Tables). isLive (entry eight t o e) ≡ true → KeepsContext eight (tables s) t o e) (sym (next-is s q x m))
           (D .reference-keeps-context (tables s) r q n o e live);
       callers-kept = λ q n x m. subst (KeepsCallers eight (tables s)) (sym (next-is s q x m)) (D .callers-kept (tables s) r q n);
+      every-cell-is-paid = D .every-cell-is-paid (tables s) r;
+      context-pays = D .context-pays (tables s) r;
+      only-bind-moves-payers =
+          λ q n b x m. subst (KeepsPayers eight (tables s)) (sym (next-is s q x m)) (D .only-bind-moves-payers (tables s) r q n b);
+      bind-moves-payers =
+          λ w c x a m ok.
+          let done = sym (ap (λ (y : Reply). succeeds (y .outcome)) (reply-is s (Bind w c x) a m)) ∙ ok in
+          subst (λ (t : Tables). MovesPayers eight (tables s) t w c x) (sym (next-is s (Bind w c x) a m)) (D .bind-moves-payers (tables s) r w c x done);
     }
 
 -- ---- and of any sound state of the machine's sizes: whatever the call, the state in its reply is sound

@@ -179,6 +179,7 @@ fn refusal_number(why: Refusal) -> u8
         Refusal::NoMessage => 14,
         Refusal::NotReady => 15,
         Refusal::NoCaller => 16,
+        Refusal::TooManyCharges => 17,
     }
 }
 

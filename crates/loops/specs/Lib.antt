@@ -1,5 +1,6 @@
 -- The laws of loops: searches and counts, tests of each number, walks and sums. No word of the protocol.
 pub mod Searching
+pub mod Filling
 pub mod Passing
 pub mod Walking
 pub mod Summing

@@ -8,7 +8,7 @@ use mathlib.Core.List.{List, [], _∷_}
 use mathlib.Core.Logic.{_≢_}
 use lib.ListN.{length, getD, set, replicate}
 use Rattle.numbers.specs.Below.{sumBelow}
-use Rattle.numbers.specs.Lists.{eachFrom, each, total}
+use Rattle.numbers.specs.Lists.{eachFrom, each, total, listedFrom, listed}
 use Rattle.numbers.specs.Tests.{and-l, and-r, and-i}
 use Rattle.numbers.specs.BelowLaws.{sum-front}
 
@@ -98,3 +98,38 @@ module _ {A : Type 0} where
   blank zero i d = refl
   blank (suc n) zero d = refl
   blank (suc n) (suc i) d = blank n i d
+
+  -- ---- the list of what a function says of each number
+  pub length-listed : (f : ℕ → A) (n i : ℕ) → length (listedFrom f n i) ≡ n
+  unfolding listedFrom
+  length-listed f zero i = refl
+  length-listed f (suc n) i = ap suc (length-listed f n (suc i))
+
+  listed-from-at : (f : ℕ → A) (n i k : ℕ) (d : A) → k < n → getD (listedFrom f n i) k d ≡ f (i + k)
+  unfolding listedFrom
+  listed-from-at f zero i k d h = absurd (omega arith)
+  listed-from-at f (suc n) i zero d h = ap f (sym (add-zero i))
+  listed-from-at f (suc n) i (suc k) d h =
+      let e : suc i + k ≡ i + suc k = omega arith in
+      listed-from-at f n (suc i) k d (omega arith) ∙ ap f e
+
+  pub listed-at : (f : ℕ → A) (n k : ℕ) (d : A) → k < n → getD (listed n f) k d ≡ f k
+  listed-at f n k d h = listed-from-at f n 0 k d h ∙ ap f (zero-add k)
+
+  -- a list of n elements with these elements is this list
+  listed-from-is : (f : ℕ → A) (l : List A) (n i : ℕ) (d : A) → length l ≡ n → ((k : ℕ) → k < n → getD l k d ≡ f (i + k)) → l ≡ listedFrom f n i
+  unfolding listedFrom
+  listed-from-is f [] zero i d q h = refl
+  listed-from-is f [] (suc n) i d q h = absurd (omega arith)
+  listed-from-is f (x ∷ xs) zero i d q h = absurd (omega arith)
+  listed-from-is f (x ∷ xs) (suc n) i d q h =
+      let here : x ≡ f i = h 0 (omega arith) ∙ ap f (add-zero i) in
+      let later = listed-from-is f xs n (suc i) d (omega arith)
+      (λ k l. h (suc k) (omega arith) ∙ ap f (let e : i + suc k ≡ suc i + k = omega arith in e)) in
+      (λ j. here j ∷ later j)
+
+  pub listed-is : (f : ℕ → A) (l : List A) (n : ℕ) (d : A) → length l ≡ n → ((k : ℕ) → k < n → getD l k d ≡ f k) → l ≡ listed n f
+  listed-is f l n d q h = listed-from-is f l n 0 d q (λ k j. h k j ∙ ap f (sym (zero-add k)))
+
+  pub listed-cong : (f g : ℕ → A) (n : ℕ) → ((k : ℕ) → k < n → f k ≡ g k) → listed n f ≡ listed n g
+  listed-cong f g n h = listed-is g (listed n f) n (f 0) (length-listed f n 0) (λ k j. listed-at f n k (f 0) j ∙ h k j)

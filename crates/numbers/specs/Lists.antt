@@ -1,6 +1,6 @@
--- Tests and sums over a whole list, element by element. They say what `allBelow` and `sumBelow` say of the list's places, and are
--- run in one pass. Assumes nothing.
-use Prim.Native.Nat.{ℕ, suc, _+_}
+-- Tests and sums over a whole list, element by element, which say what `allBelow` and `sumBelow` say of the list's places, and are run in one
+-- pass; and the list of what a function says of each number. Assumes nothing.
+use Prim.Native.Nat.{ℕ, zero, suc, _+_}
 use mathlib.Core.Bool.{Bool, true, _&&_}
 use mathlib.Core.List.{List, [], _∷_}
 
@@ -17,3 +17,12 @@ module _ {A : Type 0} where
   unfoldable pub total : (A → ℕ) → List A → ℕ
   total f [] = 0
   total f (x ∷ xs) = f x + total f xs
+
+  -- f of each of the n numbers from i on, in order
+  unfoldable pub listedFrom : (ℕ → A) → ℕ → ℕ → List A
+  listedFrom f zero i = []
+  listedFrom f (suc n) i = f i ∷ listedFrom f n (suc i)
+
+  -- f of each number below n, in order
+  abbrev pub listed : ℕ → (ℕ → A) → List A
+  listed n f = listedFrom f n 0

@@ -185,8 +185,6 @@ module _ (𝓜 : Machine) (L : Laws 𝓜) (s : Tables) (F : Facts 𝓜 s) (reads
             message-ok = inr tt;
             busy-kept = λ b v. absurd (free-not-busy 𝓜 L s F to c (free .1) b);
             var-kept = λ y v. absurd-bool v refl;
-            ex-kept = λ a b t u. absurd-bool t refl;
-            caller-kept = λ who t u. absurd-bool t refl;
             reference-kept = inr (inr (refl, eq-both o e));
             ex-new = λ d a b t u. absurd (unnamed d a b t u);
             reads = λ v d. refl;

@@ -27,6 +27,7 @@ use Rattle.tables.specs.Look.{cell, entry, booked, message}
 use Rattle.rules.specs.Answers.{Result}
 use Rattle.states.specs.Chains.{through, follow}
 use Rattle.states.specs.Sound.{readsFor, asksFor, readsOf, asksOf, cellHolds, messageHolds, held}
+use Rattle.rules.specs.Refusals.{badCount}
 use Rattle.rules.specs.Calls.{allFree, closed, start}
 use Rattle.states.specs.Facts.{CellFact, EntryFact, MessageFact, ReadAhead}
 use Rattle.states.proofs.Inside.{cells-all, entries-all}
@@ -120,3 +121,12 @@ start-invariant 𝓜 p = go (eqb p 0 || ltb (𝓜 .workers) p) refl
     go false t =
         let n = or-no (eqb p 0) (ltb (𝓜 .workers) p) t in
         free-invariant 𝓜 p (ltb-false (𝓜 .workers) p (n .1))
+
+-- and leaves every cell free
+pub start-free : (𝓜 : Machine) (p w c : ℕ) → cell 𝓜 (start 𝓜 p .after) w c ≡ Free
+unfolding start s
+start-free 𝓜 p w c = go (badCount 𝓜 p) refl
+  where
+    go : (b : Bool) → badCount 𝓜 p ≡ b → cell 𝓜 (start 𝓜 p .after) w c ≡ Free
+    go true t = rw t (cell-free 𝓜 _ w c)
+    go false t = rw t (cell-free 𝓜 _ w c)

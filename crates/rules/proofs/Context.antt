@@ -1,5 +1,5 @@
--- A reference keeps its context, and a context its caller: what refers to an entry refers to a live one, and a move leaves what a live entry
--- leads to, and the caller of a VAR or a VAL that stays one. Assumes nothing.
+-- A reference keeps its context: what refers to an entry refers to a live one, and a move that keeps callers leaves what a live entry leads to.
+-- Assumes nothing.
 use Prim.Native.Nat.{ℕ, _≤_}
 use native.Mathlib.Omega.{arith}
 use mathlib.Core.Path.{_≡_, refl, sym, ap, ap₂, subst, _∙_}
@@ -16,18 +16,17 @@ use Rattle.tables.specs.declared.Message.{Message}
 use Rattle.tables.specs.declared.Message.the-variants.{Empty, Reference, Release, Read, Answer, Ask, Supply}
 use Rattle.tables.specs.declared.Place.the-variants.{At}
 use Rattle.tables.specs.Machine.{Machine, Tables}
-use Rattle.tables.specs.Parts.{isFree, isVar, isVal, hasCaller, isEx, exNames, isLive, entryNames, cellOf}
+use Rattle.tables.specs.Parts.{isFree, isVar, isVal, hasCaller, exNames, isLive, entryNames, cellOf}
 use Rattle.tables.specs.Look.{cell, entry, exported, message}
 use Rattle.states.specs.Chains.{ahead, LeadsTo}
 use Rattle.states.specs.Sound.{messageHolds}
 use Rattle.states.specs.Facts.{MessageFact, Facts, Reads}
 use Rattle.states.specs.Move.{Move, next, ReferenceGoes, Keeps, Makes, nothing, moved}
-use Rattle.rules.specs.Statements.{messageNames, Gone, home, away, KeepsNaming, KeepsCallers, Continues, as-it-was, given-a-value, bound-to, KeepsContext}
+use Rattle.rules.specs.Statements.{messageNames, Gone, home, away, KeepsCallers, Continues, as-it-was, given-a-value, bound-to, KeepsContext}
 use Rattle.states.proofs.Named.{the-live, the-entry-of, names-live-entry, both-eq, eq-both}
 use Rattle.states.proofs.Busy.{exported-by}
 use Rattle.states.proofs.Derived.{live-fact, held-live, sent-held, names-live, LivePlace, live-place, ahead-place, read-live}
 use Rattle.states.proofs.Kept.{VarAfter, var-or-val, ref-to-safe, var-after, live-kept, facts-kept, exported-same}
-use Rattle.states.proofs.Stored.{stored-each}
 use Rattle.states.proofs.Next.{cell-stored, slot-here, slot-other}
 use Rattle.states.proofs.Onward.{ahead-kept}
 
@@ -56,13 +55,7 @@ module _ (𝓜 : Machine) (s : Tables) (F : Facts 𝓜 s) where
       go (Supply x c n) q t f = absurd-bool t refl
 
 -- ---- from one state to the next
-module _ (𝓜 : Machine) (s : Tables) (h : Move) (F : Facts 𝓜 s) (K : Keeps 𝓜 s h) where
-  -- a VAR or a VAL that stays one keeps its caller
-  pub keeps-callers : KeepsCallers 𝓜 s (next 𝓜 s h)
-  keeps-callers w c who =
-      stored-each (cell-stored 𝓜 s h (F .sized) (K .placed)) (λ v d x y. hasCaller who x ≡ true → (isVar y || isVal y) ≡ true → hasCaller who y ≡ true)
-      (K .caller-kept who) (λ v d f t u. t) w c
-
+module _ (𝓜 : Machine) (s : Tables) (h : Move) (F : Facts 𝓜 s) (K : Keeps 𝓜 s h) (callers : KeepsCallers 𝓜 s (next 𝓜 s h)) where
   -- an exported VAR or VAL
   continues : (w c : ℕ) → exported 𝓜 s w c ≡ true → (isVar (cell 𝓜 s w c) || isVal (cell 𝓜 s w c)) ≡ true → Continues 𝓜 s (next 𝓜 s h) w c
   continues w c x t = go (cell 𝓜 s w c) refl t
@@ -72,7 +65,7 @@ module _ (𝓜 : Machine) (s : Tables) (h : Move) (F : Facts 𝓜 s) (K : Keeps 
       caller-is caller k was now u =
           let has = ap (hasCaller caller) was ∙ eq-eqb caller caller refl in
           sym (ap (hasCaller caller) now)
-          ∙ keeps-callers w c caller has (ap (λ (x : Kind). isVar x || isVal x) now ∙ u)
+          ∙ callers w c caller has (ap (λ (x : Kind). isVar x || isVal x) now ∙ u)
 
       after : (caller : ℕ) (k : Kind) → cell 𝓜 s w c ≡ Var caller → cell 𝓜 (next 𝓜 s h) w c ≡ k → VarAfter 𝓜 s h F K w k → Continues 𝓜 s (next 𝓜 s h) w c
       after caller k was now (ref-to-safe y e same safe) = bound-to y caller was (now ∙ e)
@@ -121,9 +114,9 @@ module _ (𝓜 : Machine) (s : Tables) (h : Move) (F : Facts 𝓜 s) (K : Keeps 
           (there, ap (entryNames c) (z .is) ∙ eq-eqb (z .cell) c same)
 
 -- whatever a call makes
-pub context-made : (𝓜 : Machine) (s t : Tables) → Facts 𝓜 s → Makes 𝓜 s t → (o e : ℕ) → isLive (entry 𝓜 s o e) ≡ true → isLive (entry 𝓜 t o e) ≡ true
-    → KeepsContext 𝓜 s t o e
-context-made 𝓜 s t F (nothing) o e live live′ =
+pub context-made : (𝓜 : Machine) (s t : Tables) → Facts 𝓜 s → Makes 𝓜 s t → KeepsCallers 𝓜 s t → (o e : ℕ)
+    → isLive (entry 𝓜 s o e) ≡ true → isLive (entry 𝓜 t o e) ≡ true → KeepsContext 𝓜 s t o e
+context-made 𝓜 s t F (nothing) callers o e live live′ =
     let l = the-live (entry 𝓜 s o e) live in
     record {
       same-cell = refl;
@@ -132,44 +125,33 @@ context-made 𝓜 s t F (nothing) o e live live′ =
       same-steps = λ w c x. (x .there, x .names);
       same-context = λ w c x. as-it-was refl;
     }
-context-made 𝓜 s t F (moved h K on C) o e live live′ = context-kept 𝓜 s h F K o e live live′
+context-made 𝓜 s t F (moved h K on C) callers o e live live′ = context-kept 𝓜 s h F K callers o e live live′
 
--- ---- what an EX and a Reference name
-naming-kept : (𝓜 : Machine) (s : Tables) (h : Move) → Facts 𝓜 s → Keeps 𝓜 s h → KeepsNaming 𝓜 s (next 𝓜 s h)
-naming-kept 𝓜 s h F K =
-    record {
-      same-entry = λ w c o e.
-          stored-each (cell-stored 𝓜 s h (F .sized) (K .placed)) (λ v d x y. exNames o e x ≡ true → isEx y ≡ true → exNames o e y ≡ true)
-          (K .ex-kept o e) (λ v d f t u. t) w c;
-      same-reference = λ k to o e n q. reference k to o e n q (ℕ-discrete k (h .i));
-    }
+-- ---- where a Reference goes
+reference-kept : (𝓜 : Machine) (s : Tables) (h : Move) → Facts 𝓜 s → Keeps 𝓜 s h → (k to o e n : ℕ) → message s k ≡ Reference to o e n
+    → (message (next 𝓜 s h) k ≡ message s k) ⊎ Gone 𝓜 (next 𝓜 s h) to o e
+reference-kept 𝓜 s h F K k to o e n q = reference (ℕ-discrete k (h .i))
   where
     here : cell 𝓜 (next 𝓜 s h) (h .w) (h .c) ≡ h .k
     here = cell-stored 𝓜 s h (F .sized) (K .placed) .here
 
-    gone : (to o e n : ℕ) → h .m₀ ≡ Reference to o e n → (h .m ≡ h .m₀) ⊎ ReferenceGoes (h .w) (h .k) (h .m₀)
-        → (h .m ≡ h .m₀) ⊎ Gone 𝓜 (next 𝓜 s h) to o e
-    gone to o e n q (inl same) = inl same
-    gone to o e n q (inr g) = inr (by (subst (ReferenceGoes (h .w) (h .k)) q g))
+    gone : h .m₀ ≡ Reference to o e n → (h .m ≡ h .m₀) ⊎ ReferenceGoes (h .w) (h .k) (h .m₀) → (h .m ≡ h .m₀) ⊎ Gone 𝓜 (next 𝓜 s h) to o e
+    gone i (inl same) = inl same
+    gone i (inr g) = inr (by (subst (ReferenceGoes (h .w) (h .k)) i g))
       where
         by : (to ≡ o) ⊎ ((h .w ≡ to) × (exNames o e (h .k) ≡ true)) → Gone 𝓜 (next 𝓜 s h) to o e
         by (inl at-home) = home at-home
         by (inr x) =
             away (h .c) (sym (ap (λ (v : ℕ). exNames o e (cell 𝓜 (next 𝓜 s h) v (h .c))) (x .0)) ∙ ap (exNames o e) here ∙ x .1)
 
-    reference : (k to o e n : ℕ) → message s k ≡ Reference to o e n → Dec (k ≡ h .i)
-        → (message (next 𝓜 s h) k ≡ message s k) ⊎ Gone 𝓜 (next 𝓜 s h) to o e
-    reference k to o e n q (yes same) =
+    reference : Dec (k ≡ h .i) → (message (next 𝓜 s h) k ≡ message s k) ⊎ Gone 𝓜 (next 𝓜 s h) to o e
+    reference (yes same) =
         let was : message s k ≡ h .m₀ = ap (message s) same ∙ K .placed .old-message in
         let now : message (next 𝓜 s h) k ≡ h .m = ap (message (next 𝓜 s h)) same ∙ slot-here 𝓜 s h (F .sized) (K .placed) in
-        ⊎-elim (λ r. inl (now ∙ r ∙ sym was)) inr (gone to o e n (sym was ∙ q) (K .reference-kept))
-    reference k to o e n q (no other) = inl (slot-other 𝓜 s h (F .sized) (K .placed) k other)
+        ⊎-elim (λ r. inl (now ∙ r ∙ sym was)) inr (gone (sym was ∙ q) (K .reference-kept))
+    reference (no other) = inl (slot-other 𝓜 s h (F .sized) (K .placed) k other)
 
-pub naming-made : (𝓜 : Machine) (s t : Tables) → Facts 𝓜 s → Makes 𝓜 s t → KeepsNaming 𝓜 s t
-naming-made 𝓜 s t F (nothing) = record { same-entry = λ w c o e n x. n; same-reference = λ k to o e n q. inl refl }
-naming-made 𝓜 s t F (moved h K on C) = naming-kept 𝓜 s h F K
-
--- ---- callers
-pub callers-made : (𝓜 : Machine) (s t : Tables) → Facts 𝓜 s → Makes 𝓜 s t → KeepsCallers 𝓜 s t
-callers-made 𝓜 s t F (nothing) = λ w c who h u. h
-callers-made 𝓜 s t F (moved h K on C) = keeps-callers 𝓜 s h F K
+pub reference-made : (𝓜 : Machine) (s t : Tables) → Facts 𝓜 s → Makes 𝓜 s t → (k to o e n : ℕ) → message s k ≡ Reference to o e n
+    → (message t k ≡ message s k) ⊎ Gone 𝓜 t to o e
+reference-made 𝓜 s t F (nothing) k to o e n q = inl refl
+reference-made 𝓜 s t F (moved h K on C) k to o e n q = reference-kept 𝓜 s h F K k to o e n q

@@ -2,8 +2,6 @@
 -- Computed: the order of the refusals, the numbered cases.
 pub mod Order
 pub mod Cases
--- A move keeps what a live entry leads to.
-pub mod Context
 -- Every call makes a move that keeps what it must, and every delivery leaves less to be delivered.
 pub mod Measure
 pub mod Steps
@@ -11,7 +9,11 @@ pub mod Local
 pub mod Send
 pub mod Arrive
 pub mod Begun
+-- What a call may make of a cell, and what a move keeps of what a live entry leads to.
+pub mod Cells
+pub mod Context
 -- Demand 3, for every machine, and at document 01's sizes.
 pub mod Chains
+pub mod Payers
 pub mod Whole
 pub mod Eight

@@ -2,7 +2,7 @@
 use Prim.Native.Nat.{ℕ, _+_, _<_, _≤_}
 use native.Mathlib.Omega.{arith}
 use mathlib.Core.Path.{_≡_, refl, sym, ap, subst, _∙_}
-use mathlib.Core.Bool.{Bool, true, false, _&&_, _||_, not, cond}
+use mathlib.Core.Bool.{Bool, true, false, _&&_, not, cond}
 use mathlib.Core.Logic.{_⊎_, inl, inr}
 use lib.Dec.{eqb, leb}
 use borrow.Author.Tests.{leb-false}
@@ -15,7 +15,7 @@ use Rattle.tables.specs.declared.Message.{Message}
 use Rattle.tables.specs.declared.Message.the-variants.{Empty, Reference, Release}
 use Rattle.tables.specs.declared.Change.the-variants.{OfCell}
 use Rattle.tables.specs.Machine.{Machine, Tables}
-use Rattle.tables.specs.Parts.{readingOf, isFree, isVar, isVal, hasCaller, isEx, isReading, isAsking, goesTo}
+use Rattle.tables.specs.Parts.{readingOf, isFree, isEx, isReading, isAsking, goesTo}
 use Rattle.tables.specs.Look.{cell, entry, end, endKind, safe, exported, busy, lowestFreeCell, lowestEmptySlot, booked, freeCells, message, putCell, putMessage, changed}
 use Rattle.rules.specs.Answers.{done, made}
 use Rattle.states.specs.Sound.{readsFor, asksFor, cellHolds, messageHolds}
@@ -78,8 +78,6 @@ module _ (𝓜 : Machine) (L : Laws 𝓜) (s : Tables) (F : Facts 𝓜 s) where
         message-ok = inl refl;
         busy-kept = λ b v. absurd (free-not-busy 𝓜 L s F w c q b);
         var-kept = λ x v. absurd-bool v refl;
-        ex-kept = λ a b t y. absurd-bool t refl;
-        caller-kept = λ who t u. absurd-bool t refl;
         reference-kept = inl refl;
         ex-new = λ d a b t y. absurd-bool t refl;
         reads = λ v d. refl;
@@ -103,9 +101,9 @@ module _ (𝓜 : Machine) (L : Laws 𝓜) (s : Tables) (F : Facts 𝓜 s) where
   -- ---- set and bind: a VAR gets its value, or becomes a REF
   var-moves : (w c caller : ℕ) (k : Kind) → cell 𝓜 s w c ≡ Var caller
       → CellFact 𝓜 (next 𝓜 s (cellMove 𝓜 s w c (Var caller) k 0 (message s 0) (message s 0))) w k → (exported 𝓜 s w c ≡ true → VarBecomes 𝓜 s w k)
-      → ((who : ℕ) → hasCaller who (Var caller) ≡ true → (isVar k || isVal k) ≡ true → hasCaller who k ≡ true) → isEx k ≡ false → isFree k ≡ false
+      → isEx k ≡ false → isFree k ≡ false
       → CellMoves 𝓜 L s w c (Var caller) k 0 (message s 0) (message s 0)
-  var-moves w c caller k q ok becomes caller-ok ne nf =
+  var-moves w c caller k q ok becomes ne nf =
       let inside = cell-inside 𝓜 s w c (ap isFree q) in
       record {
         w-in = inside .0;
@@ -117,8 +115,6 @@ module _ (𝓜 : Machine) (L : Laws 𝓜) (s : Tables) (F : Facts 𝓜 s) where
         message-ok = inl refl;
         busy-kept = λ b v. absurd-bool refl v;
         var-kept = λ x v. becomes x;
-        ex-kept = λ a b t y. absurd-bool t refl;
-        caller-kept = caller-ok;
         reference-kept = inl refl;
         ex-new = λ d a b t y. absurd-bool t (not-on-ex false (λ owner entr n st z. eqb owner a && eqb entr b) k ne);
         reads = λ v d. rw (not-on-ex false (λ o e n st z. readingOf st) k ne);
@@ -136,7 +132,7 @@ module _ (𝓜 : Machine) (L : Laws 𝓜) (s : Tables) (F : Facts 𝓜 s) where
       let u = worker-used w (search) in
       let q = var-is (cell 𝓜 s w c) (not-false (search)) in
       let k = valued n (Var (q .0)) in
-      rw (q .1) (cell-makes w c (Var (q .0)) k (var-moves w c (q .0) k (q .1) (u .0) (λ x. stays refl) (λ who t v. t) refl refl) (λ t. tt)))
+      rw (q .1) (cell-makes w c (Var (q .0)) k (var-moves w c (q .0) k (q .1) (u .0) (λ x. stays refl) refl refl) (λ t. tt)))
 
   pub bind-makes : (w c x : ℕ) → Makes 𝓜 s (made 𝓜 s (bind 𝓜 s w c x) .after)
   unfolding bind endKind
@@ -151,7 +147,6 @@ module _ (𝓜 : Machine) (L : Laws 𝓜) (s : Tables) (F : Facts 𝓜 s) where
       cell-makes w c (Var (q .0)) (Ref y)
       (var-moves w c (q .0) (Ref y) (q .1) (u .0, ref-ex (q .0) (q .1) ex)
       (λ e. bound y refl (not-false (rw e at guarded)))
-      (λ who t v. absurd-bool v refl)
       refl refl)
       (λ t. tt))
     where
@@ -195,8 +190,6 @@ module _ (𝓜 : Machine) (L : Laws 𝓜) (s : Tables) (F : Facts 𝓜 s) where
         message-ok = f .message-ok;
         busy-kept = λ b v. absurd-bool b (f .idle);
         var-kept = λ x v. absurd-bool x (quiet .0);
-        ex-kept = λ a b t y. absurd-bool y refl;
-        caller-kept = λ who t u. absurd-bool u refl;
         reference-kept = f .reference-kept;
         ex-new = λ d a b t y. absurd-bool t refl;
         reads = λ v d. omega (arith, f .reads v d, ap (λ (z : Bool). cond (eqb w v && eqb c d) (bit z) 0) no-read);

@@ -9,7 +9,7 @@ use lib.Dec.{leb}
 use borrow.Author.Tests.{leb-true}
 use Rattle.numbers.specs.Tests.{and-l, and-r}
 use Rattle.tables.specs.declared.Refusal.{Refusal}
-use Rattle.tables.specs.declared.Refusal.the-variants.{WorkerCount, NotSound, NoWorker, ToItself, NoCell, WrongKind, Busy, Unsafe, LastWeight, OverCeiling, NoEntry, NoRoom, NoSlot, NoMessage, NotReady, NoCaller}
+use Rattle.tables.specs.declared.Refusal.the-variants.{WorkerCount, NotSound, NoWorker, ToItself, NoCell, WrongKind, Busy, Unsafe, LastWeight, OverCeiling, NoEntry, NoRoom, NoSlot, NoMessage, NotReady, NoCaller, TooManyCharges}
 use Rattle.tables.specs.declared.Effect.{Effect}
 use Rattle.tables.specs.declared.Call.{Call}
 use Rattle.tables.specs.declared.Call.the-variants.{Start, New, Set, Bind, Export, Indirect, Transfer, Drop, ReadCell, AskWeight, Deliver, Bound}
@@ -18,7 +18,7 @@ use Rattle.tables.specs.Parts.{isEx}
 use Rattle.tables.specs.Look.{cell, end, endKind, room}
 use Rattle.rules.specs.Answers.{Check, _when_, checked, numberOf, precedence}
 use Rattle.states.specs.Sound.{sound}
-use Rattle.rules.specs.Refusals.{sendLines, byReferenceLines, byLocationLines, used}
+use Rattle.rules.specs.Refusals.{sendLines, byReferenceLines, byLocationLines, used, reportLines}
 use Rattle.rules.specs.Order.{inOrderFrom, inOrder, Applies, first, later, LowestGiven, refusalsOf}
 
 -- what applies in a list in order stands no lower than where the list begins
@@ -57,10 +57,16 @@ by-number NoSlot h = refl
 by-number NoMessage h = refl
 by-number NotReady h = refl
 by-number NoCaller h = absurd (omega arith)
+by-number TooManyCharges h = absurd (omega arith)
 
 -- "16 for a caller above 255, after 3 and before 12"
 pub caller-between : (precedence NoWorker < precedence NoCaller) × (precedence NoCaller < precedence NoRoom)
 caller-between = (omega arith, omega arith)
+
+-- "2; then 17 for a longer list"
+pub report-in-order : (is-sound : Bool) (n : ℕ) → inOrder (reportLines is-sound n) ≡ true
+unfolding inOrderFrom
+report-in-order is-sound n = refl
 
 pub in-order : (𝓜 : Machine) (s : Tables) (q : Call) → inOrder (refusalsOf 𝓜 s q) ≡ true
 unfolding inOrderFrom

@@ -16,11 +16,13 @@ use Rattle.tables.specs.declared.Holding.{Holding}
 use Rattle.tables.specs.declared.Holding.the-variants.{Unused, Live}
 use Rattle.tables.specs.declared.Message.{Message}
 use Rattle.tables.specs.declared.Message.the-variants.{Empty, Reference, Release, Read, Answer, Ask, Supply}
+use Rattle.tables.specs.declared.Refusal.{Refusal}
+use Rattle.tables.specs.declared.Outcome.the-variants.{Refused}
 use Rattle.tables.specs.declared.Effect.{Effect}
 use Rattle.tables.specs.Machine.{Machine, Tables}
 use Rattle.tables.specs.Parts.{isFree, isVar, isEx, isReading, isAsking, isUnused, isEmpty, goesTo}
 use Rattle.tables.specs.Look.{cell, entry, entryOf, exported, referred, busy, lowestFreeCell, lowestFreeEntry, lowestEmptySlot, booked, freeCells, message, changed}
-use Rattle.rules.specs.Answers.{Check, _when_, refuse, checked}
+use Rattle.rules.specs.Answers.{Check, _when_, answered, refuse, checked}
 use Rattle.rules.specs.Order.{Passed}
 use Rattle.states.specs.Machines.{Laws}
 use Rattle.states.specs.Facts.{Facts}
@@ -30,17 +32,20 @@ use Rattle.states.proofs.Derived.{bit-one, live-fact, cell-fact}
 use Rattle.states.specs.Move.{ReadsOn, TrueValues, Carries, Makes, nothing, moved}
 use Rattle.states.proofs.Moves.{Stores}
 
--- ---- refusals passed: a refused call leaves the state as it came
+-- ---- what holds of every refusal, and of what is done once all are passed, holds of what a call gives
+pub checked-is : (P : Effect → Type 0) (l : List Check) (d : Effect) → ((why : Refusal) → P (answered (Refused why))) → (Passed l → P d) → P (checked l d)
+unfolding checked
+checked-is P [] d none new = new tt
+checked-is P ((why when hit) ∷ l) d none new = go hit refl (checked-is P l d none)
+  where
+    go : (b : Bool) → hit ≡ b → ((Passed l → P d) → P (checked l d)) → P (refuse b why (checked l d))
+    go true e rest = none why
+    go false e rest = rest (λ p. new (e, p))
+
+-- a refused call leaves the state as it came
 pub makes-checked : (𝓜 : Machine) (s : Tables) (l : List Check) (d : Effect) → (Passed l → Makes 𝓜 s (changed 𝓜 s (d .change)))
     → Makes 𝓜 s (changed 𝓜 s (checked l d .change))
-unfolding checked
-makes-checked 𝓜 s [] d new = new tt
-makes-checked 𝓜 s ((why when hit) ∷ l) d new = go hit refl (makes-checked 𝓜 s l d)
-  where
-    go : (b : Bool) → hit ≡ b → ((Passed l → Makes 𝓜 s (changed 𝓜 s (d .change))) → Makes 𝓜 s (changed 𝓜 s (checked l d .change)))
-        → Makes 𝓜 s (changed 𝓜 s (refuse b why (checked l d) .change))
-    go true e rest = nothing
-    go false e rest = rest (λ p. new (e, p))
+makes-checked 𝓜 s l d new = checked-is (λ x. Makes 𝓜 s (changed 𝓜 s (x .change))) l d (λ why. nothing) new
 
 pub not-false : {b : Bool} → not b ≡ false → b ≡ true
 not-false {b = true} e = refl

@@ -25,7 +25,7 @@ use Rattle.tables.specs.declared.Call.{Call}
 use Rattle.tables.specs.declared.Call.the-variants.{Start, New, Set, Bind, Export, Indirect, Transfer, Drop, ReadCell, AskWeight, Deliver, Bound}
 use Rattle.tables.specs.declared.Effect.{Effect}
 use Rattle.tables.specs.Machine.{Machine, Tables}
-use Rattle.tables.specs.Parts.{isReading, namedBy, isLive, cellOf, entryWeight, isEmpty}
+use Rattle.tables.specs.Parts.{isReading, namedBy, isLive, entryWeight, isEmpty}
 use Rattle.tables.specs.Look.{cell, entry, message, changed}
 use Rattle.rules.specs.Answers.{answered, made, succeeds, checked}
 use Rattle.states.specs.Sound.{readsFor, readsOf, held, sound}
@@ -33,26 +33,26 @@ use Rattle.states.specs.Chains.{ahead, EndsIn}
 use Rattle.rules.specs.Refusals.{ready, boundRefusals}
 use Rattle.rules.specs.Calls.{start, bound, B}
 use Rattle.rules.specs.Deliver.{deliverHome, deliverAway, deliverRelease, deliverRead, deliverAnswer, deliverSupply, deliverAsk, deliverMessage, deliver}
-use Rattle.rules.specs.Step.{isStart, step, run, delivers, drained, successes, Reached, begun, after}
+use Rattle.rules.specs.Step.{isStart, isBind, step, run, delivers, drained, successes, Reached, begun, after}
 use Rattle.states.specs.Machines.{Laws}
 use Rattle.states.specs.Facts.{EntryFact, Facts, ReadAhead, Reads, KnownFact}
-use Rattle.states.proofs.Derived.{LivePlace, live-place, names-live, named-place, ahead-place}
+use Rattle.states.proofs.Derived.{LivePlace, names-live, named-place}
 use Rattle.states.proofs.Named.{both-eq}
 use Rattle.states.proofs.FromTest.{sound-facts, sound-reads}
 use Rattle.states.proofs.ToTest.{facts-sound}
 use Rattle.states.specs.Move.{Makes, nothing, Ranked, Invariant}
-use Rattle.rules.specs.Statements.{noStart, CallsKeepSound, FreedAtNothing, NoLoops, AtMostB, holdsReady, AtRest, slotsTaken, TakesReady, RestIsReached, readOfUnbound, KnownWith, Brought, Demand3}
-use Rattle.states.proofs.Count.{standing-live, comes-to-end}
+use Rattle.rules.specs.Statements.{noStart, CallsKeepSound, FreedAtNothing, AtMostB, holdsReady, AtRest, slotsTaken, TakesReady, RestIsReached, readOfUnbound, KnownWith, Brought, CallersKept, ReferenceKeepsContext, OnlyBindMovesPayers, Demand3}
 use Rattle.rules.proofs.Measure.{measure, measure-bound, StatusOn, KindOn, ExOn, Arrived, arrived}
 use Rattle.states.proofs.Stays.{facts-made, invariant-made}
-use Rattle.states.proofs.Ends.{own-context}
-use Rattle.rules.proofs.Context.{message-live, context-made, naming-made, callers-made}
+use Rattle.rules.proofs.Context.{message-live, context-made, reference-made}
+use Rattle.rules.proofs.Cells.{Becomes, step-becomes, keeps-entry, keeps-caller, CallerFact, keeps-caller-fact}
 use Rattle.rules.proofs.Steps.{makes-checked, not-false}
 use Rattle.rules.proofs.Local.{new-makes, set-makes, bind-makes, transfer-makes, drop-makes}
 use Rattle.rules.proofs.Send.{export-makes, indirect-makes, read-makes, ask-makes}
 use Rattle.rules.proofs.Arrive.{message-arrives, deliver-makes}
-use Rattle.rules.proofs.Begun.{start-invariant}
+use Rattle.rules.proofs.Begun.{start-free, start-invariant}
 use Rattle.rules.proofs.Chains.{ends-one, on-chain}
+use Rattle.rules.proofs.Payers.{comes-to-context, context-pays, cell-is-paid, keeps-payers, bind-moves-payers}
 
 -- ---- every sequence
 module _ (𝓜 : Machine) where
@@ -100,6 +100,18 @@ module _ (𝓜 : Machine) (L : Laws 𝓜) where
       let I = reached-invariant t r in
       invariant-made 𝓜 t (step 𝓜 t q .after) I (step-makes t (I .facts) (I .reads) q n)
 
+  -- and every cell becomes what it may
+  reached-becomes : (s : Tables) → Reached 𝓜 s → (q : Call) → isStart q ≡ false → (w c : ℕ) → Becomes (isBind q) (cell 𝓜 s w c) (cell 𝓜 (step 𝓜 s q .after) w c)
+  reached-becomes s r q n = step-becomes 𝓜 L s (reached-invariant s r .facts .sized) q n
+
+  callers-kept : CallersKept 𝓜
+  callers-kept s r q n w c who = keeps-caller who (reached-becomes s r q n w c)
+
+  keeps-context : ReferenceKeepsContext 𝓜
+  keeps-context s r q n =
+      let I = reached-invariant s r in
+      context-made 𝓜 s (step 𝓜 s q .after) (I .facts) (step-makes s (I .facts) (I .reads) q n) (callers-kept s r q n)
+
   -- ---- sound: every reached state, and what a call makes of any sound one
   is-sound : (s : Tables) → Invariant 𝓜 s → sound 𝓜 s ≡ true
   is-sound s I = facts-sound 𝓜 L s (I .facts) (I .reads)
@@ -120,7 +132,7 @@ module _ (𝓜 : Machine) (L : Laws 𝓜) where
           let t = facts-made 𝓜 s (step 𝓜 s q .after) F reads m in
           facts-sound 𝓜 L (step 𝓜 s q .after) (t .0) (t .1)
 
-  -- ---- weights, no loops
+  -- ---- weights
   freed : FreedAtNothing 𝓜
   freed s r w e = go (entry 𝓜 s w e) (I .facts .entries w e) (I .facts .weighed w e)
     where
@@ -130,19 +142,6 @@ module _ (𝓜 : Machine) (L : Laws 𝓜) where
       go : (x : Holding) → EntryFact 𝓜 s w x → entryWeight x ≡ held 𝓜 s w e → isLive x ≡ not (eqb (held 𝓜 s w e) 0)
       go Unused f q = sym (ap not (eq-eqb (held 𝓜 s w e) 0 (sym q)))
       go (Live c n t) f q = sym (ap not (ne-eqb (held 𝓜 s w e) 0 (λ z. omega (arith, f .1))))
-
-  no-loops : NoLoops 𝓜
-  no-loops s r o e live =
-      let I = reached-invariant s r in
-      let x = comes-to-end 𝓜 L s (I .facts) (I .rank) (I .ranked) o e live in
-      let last = ahead-place 𝓜 s (I .facts) (x .steps) (At o e) (live-place 𝓜 s o e live) (x .owner) (x .number) (x .there) in
-      let own = own-context 𝓜 s (I .facts) (x .owner) (x .number) last (x .end-plain) in
-      record {
-        worker = x .owner;
-        number = cellOf (entry 𝓜 s (x .owner) (x .number));
-        leads = record { steps = x .steps; number = x .number; there = x .there; names = own .0; var-or-val = own .1 };
-        few = omega (arith, x .few, standing-live 𝓜 L s (I .facts .sized) (I .rank) (I .rank o e));
-      }
 
   -- ---- one delivery: refused where the slot holds no ready message, and else the message arrives
   message-done : (s : Tables) (k : ℕ) (m : Message) → succeeds (deliverMessage 𝓜 s k m .outcome) ≡ true
@@ -328,6 +327,18 @@ module _ (𝓜 : Machine) (L : Laws 𝓜) where
       told-rest (drained 𝓜 s ks) w c o e v (reached-invariant (drained 𝓜 s ks) (reached-drained 𝓜 s ks r)) rest
       (told-drained s ks w c o e v (reached-invariant s r) (reads-on n a q ends))
 
+  -- ---- who pays
+  reached-callers : (s : Tables) → Reached 𝓜 s → (w c : ℕ) → CallerFact (cell 𝓜 s w c)
+  reached-callers s (begun p ok) w c = rw (start-free 𝓜 p w c) refl
+  reached-callers s (after {s = t} r q n) w c = keeps-caller-fact (reached-becomes t r q n w c) (reached-callers t r w c)
+
+  only-bind-moves-payers : OnlyBindMovesPayers 𝓜
+  only-bind-moves-payers s r q n not-bind =
+      let t = step 𝓜 s q .after in
+      keeps-payers 𝓜 L s t (reached-invariant s r) (reached-invariant t (after r q n))
+      (λ w c. subst (λ (b : Bool). Becomes b (cell 𝓜 s w c) (cell 𝓜 t w c)) not-bind (reached-becomes s r q n w c))
+      (λ o e live live′. keeps-context s r q n o e live live′ .same-cell)
+
   -- ---- the whole
   pub demand-3 : Demand3 𝓜
   demand-3 =
@@ -336,7 +347,7 @@ module _ (𝓜 : Machine) (L : Laws 𝓜) where
         stays-sound = λ s r. is-sound s (reached-invariant s r);
         weights = λ s r. reached-invariant s r .facts .weighed;
         freed-at-nothing = freed;
-        no-loops = no-loops;
+        no-loops = λ s r. comes-to-context 𝓜 L s (reached-invariant s r);
         at-most-b = at-most-b;
         ready-succeeds = λ s r ks. delivers-ready (drained 𝓜 s ks) (reached-invariant (drained 𝓜 s ks) (reached-drained 𝓜 s ks r));
         only-unbound-reads = λ s r ks rest k. unbound-left (drained 𝓜 s ks) (message (drained 𝓜 s ks) k) (rest k);
@@ -346,9 +357,16 @@ module _ (𝓜 : Machine) (L : Laws 𝓜) where
         refers-to-live =
             λ s r o e. let I = reached-invariant s r in (λ w c. names-live 𝓜 s (I .facts) w c o e, λ k. message-live 𝓜 s (I .facts) (I .reads) k o e);
         reference-keeps-naming =
-            λ s r q n. let I = reached-invariant s r in naming-made 𝓜 s (step 𝓜 s q .after) (I .facts) (step-makes s (I .facts) (I .reads) q n);
-        reference-keeps-context =
-            λ s r q n. let I = reached-invariant s r in context-made 𝓜 s (step 𝓜 s q .after) (I .facts) (step-makes s (I .facts) (I .reads) q n);
-        callers-kept =
-            λ s r q n. let I = reached-invariant s r in callers-made 𝓜 s (step 𝓜 s q .after) (I .facts) (step-makes s (I .facts) (I .reads) q n);
+            λ s r q n.
+            record {
+              same-entry = λ w c o e. keeps-entry o e (reached-becomes s r q n w c);
+              same-reference = let I = reached-invariant s r in reference-made 𝓜 s (step 𝓜 s q .after) (I .facts) (step-makes s (I .facts) (I .reads) q n);
+            };
+        reference-keeps-context = keeps-context;
+        callers-kept = callers-kept;
+        every-cell-is-paid = λ s r. cell-is-paid 𝓜 L s (reached-invariant s r) (reached-callers s r);
+        context-pays = λ s r. context-pays 𝓜 L s (reached-invariant s r);
+        only-bind-moves-payers = only-bind-moves-payers;
+        bind-moves-payers =
+            λ s r w c x. bind-moves-payers 𝓜 L s (reached-invariant s r) w c x (reached-invariant (step 𝓜 s (Bind w c x) .after) (after r (Bind w c x) refl));
       }

@@ -3,7 +3,7 @@ use Prim.Native.Nat.{ℕ}
 use mathlib.Core.Bool.{Bool, true, false}
 use mathlib.Core.List.{List, [], _∷_}
 use Rattle.tables.specs.declared.Refusal.{Refusal}
-use Rattle.tables.specs.declared.Refusal.the-variants.{WorkerCount, NotSound, NoWorker, ToItself, NoCell, WrongKind, Busy, Unsafe, LastWeight, OverCeiling, NoEntry, NoRoom, NoSlot, NoMessage, NotReady, NoCaller}
+use Rattle.tables.specs.declared.Refusal.the-variants.{WorkerCount, NotSound, NoWorker, ToItself, NoCell, WrongKind, Busy, Unsafe, LastWeight, OverCeiling, NoEntry, NoRoom, NoSlot, NoMessage, NotReady, NoCaller, TooManyCharges}
 use Rattle.tables.specs.declared.Outcome.{Outcome}
 use Rattle.tables.specs.declared.Outcome.the-variants.{Done, Sent, Waiting, Unbound, Refused}
 use Rattle.tables.specs.declared.Change.{Change}
@@ -31,9 +31,10 @@ numberOf NoSlot = 13
 numberOf NoMessage = 14
 numberOf NotReady = 15
 numberOf NoCaller = 16
+numberOf TooManyCharges = 17
 
 -- Where several apply, the one of the lowest precedence is given. For document 01's fifteen it is the order of the numbers; a later number
--- says what it stands after and before: "16 .., after 3 and before 12".
+-- says what it stands after and before: "16 .., after 3 and before 12", "2; then 17".
 abbrev pub precedence : Refusal → ℕ
 precedence WorkerCount = 10
 precedence NotSound = 20
@@ -51,6 +52,7 @@ precedence NoRoom = 120
 precedence NoSlot = 130
 precedence NoMessage = 140
 precedence NotReady = 150
+precedence TooManyCharges = 170
 
 -- "code (00 done, 01 to 0f refused, by number, later numbers likewise, 40 Sent, 41 Waiting, 42 Unbound ..) and value"
 abbrev pub codeOf : Outcome → ℕ

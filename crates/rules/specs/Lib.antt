@@ -5,6 +5,7 @@ pub mod Refusals
 pub mod Calls
 pub mod Deliver
 pub mod Step
+pub mod Payers
 pub mod Order
 pub mod Cases
 pub mod Statements

@@ -11,7 +11,7 @@ use Rattle.tables.specs.declared.Kind.the-variants.{Free}
 use Rattle.tables.specs.declared.Message.{Message}
 use Rattle.tables.specs.declared.Used.{Used}
 use Rattle.tables.specs.declared.Room.{Room}
-use Rattle.tables.specs.declared.Refusal.the-variants.{NotSound, NoWorker, ToItself, NoCell, WrongKind, Busy, Unsafe, LastWeight, OverCeiling, NoEntry, NoRoom, NoSlot, NoMessage, NotReady, NoCaller}
+use Rattle.tables.specs.declared.Refusal.the-variants.{NotSound, NoWorker, ToItself, NoCell, WrongKind, Busy, Unsafe, LastWeight, OverCeiling, NoEntry, NoRoom, NoSlot, NoMessage, NotReady, NoCaller, TooManyCharges}
 use Rattle.tables.specs.Machine.{Machine, Tables}
 use Rattle.tables.specs.Parts.{onEx, isFree, isVar, isEx, isAsking, exWeight, entryWeight, isEmpty, onRead}
 use Rattle.tables.specs.Look.{cell, entry, end, endKind, safe, entryOf, exported, busy, lowestFreeEntry, lowestEmptySlot, freeCells, booked, message, room}
@@ -101,6 +101,10 @@ notReady is-ready = NotReady when not is-ready
 abbrev pub noCaller : ℕ → Check
 noCaller caller = NoCaller when ltb 255 caller
 
+-- 17: "for a longer list" than "At most 65,535 charges"
+abbrev pub tooManyCharges : ℕ → Check
+tooManyCharges n = TooManyCharges when ltb 65535 n
+
 -- ---- the lines of each call, over what it has looked up: what is wrong with its arguments, 2 to 6 and 16, and then with the moment, 7 to 15
 
 abbrev pub workerLines : Bool → ℕ → ℕ → List Check
@@ -161,6 +165,10 @@ deliverLines is-sound m is-ready = (notSound is-sound ∷ []) ++ noMessage m ∷
 
 abbrev pub boundLines : Bool → List Check
 boundLines is-sound = (notSound is-sound ∷ []) ++ []
+
+-- the report's, of n charges: "2; then 17"
+abbrev pub reportLines : Bool → ℕ → List Check
+reportLines is-sound n = notSound is-sound ∷ tooManyCharges n ∷ []
 
 -- ---- what is looked up
 

@@ -1,5 +1,5 @@
--- Demand 3, sentence by sentence, that every sound state stays sound, what the whole is for, and that a context keeps its caller, as statements
--- about the rules of a machine.
+-- Demand 3, sentence by sentence, that every sound state stays sound, what the whole is for, that a context keeps its caller and a cell its payer,
+-- as statements about the rules of a machine.
 -- Nothing else is on this page; the proofs are in proofs/. The order's own words stand in quotation marks.
 --
 -- "Take any sequence of calls, refused ones included, from an accepted start and with no second start in it" is `Reached` of the rules: every
@@ -17,8 +17,9 @@ use Rattle.tables.specs.declared.Message.{Message}
 use Rattle.tables.specs.declared.Message.the-variants.{Empty, Reference, Release, Read, Answer, Ask, Supply}
 use Rattle.tables.specs.declared.Place.the-variants.{At}
 use Rattle.tables.specs.declared.Call.{Call}
+use Rattle.tables.specs.declared.Call.the-variants.{Bind}
 use Rattle.tables.specs.Machine.{Machine, Tables}
-use Rattle.tables.specs.Parts.{isFree, isVar, isVal, hasCaller, isEx, exNames, isLive, isTainted, entryNames, cellOf, entryWeight, isEmpty}
+use Rattle.tables.specs.Parts.{isFree, isVar, isVal, hasCaller, callerOf, isEx, exNames, isLive, isTainted, entryNames, cellOf, entryWeight, isEmpty}
 use Rattle.tables.specs.Look.{cell, entry, liveEntries, message}
 use Rattle.rules.specs.Answers.{succeeds}
 use Rattle.states.specs.Sound.{held, sound}
@@ -26,7 +27,8 @@ use Rattle.states.specs.Chains.{entryEnd, ahead, EndsIn, LeadsTo}
 use Rattle.rules.specs.Refusals.{ready}
 use Rattle.rules.specs.Calls.{start, B}
 use Rattle.states.specs.Machines.{Sized}
-use Rattle.rules.specs.Step.{isStart, step, run, delivers, drained, successes, Reached}
+use Rattle.rules.specs.Step.{isStart, isBind, step, run, delivers, drained, successes, Reached}
+use Rattle.rules.specs.Payers.{isCaller, payer, CellLeadsTo}
 
 -- a list of calls with no start in it
 abbrev pub noStart : List Call → Bool
@@ -191,7 +193,39 @@ module _ (𝓜 : Machine) where
   abbrev pub CallersKept : Type 0
   CallersKept = (s : Tables) → Reached 𝓜 s → (q : Call) → isStart q ≡ false → KeepsCallers s (step 𝓜 s q .after)
 
-  -- Demand 3, whole, that a reference keeps its context, and a context its caller.
+  -- ---- W-202: who pays
+
+  -- A cell has a payer exactly where it is not free, so that nothing is unplaced but charges with bad numbers or free cells.
+  abbrev pub EveryCellIsPaid : Type 0
+  EveryCellIsPaid = (s : Tables) → Reached 𝓜 s → (w c : ℕ) → isCaller (payer 𝓜 s w c) ≡ not (isFree (cell 𝓜 s w c))
+
+  -- It is the caller of the context that the cell leads to.
+  abbrev pub ContextPays : Type 0
+  ContextPays = (s : Tables) → Reached 𝓜 s → (w c v d : ℕ) → CellLeadsTo 𝓜 s w c v d → payer 𝓜 s w c ≡ callerOf (cell 𝓜 s v d)
+
+  -- No call but bind changes who pays for a cell that stays, nor for an entry that stays, which a message may name; and an EX that names an entry
+  -- after the call is paid for by whoever paid for that entry's cell before. So time is never booked through a number that was given out again.
+  pub record KeepsPayers (s s′ : Tables) : Type 0 where
+    pub of-cell : (w c : ℕ) → isFree (cell 𝓜 s w c) ≡ false → isFree (cell 𝓜 s′ w c) ≡ false → payer 𝓜 s′ w c ≡ payer 𝓜 s w c
+    pub of-entry : (o e : ℕ) → isLive (entry 𝓜 s o e) ≡ true → isLive (entry 𝓜 s′ o e) ≡ true
+        → payer 𝓜 s′ o (cellOf (entry 𝓜 s′ o e)) ≡ payer 𝓜 s o (cellOf (entry 𝓜 s o e))
+    pub of-reference : (o e w c : ℕ) → isLive (entry 𝓜 s o e) ≡ true → exNames o e (cell 𝓜 s′ w c) ≡ true
+        → payer 𝓜 s′ w c ≡ payer 𝓜 s o (cellOf (entry 𝓜 s o e))
+
+  abbrev pub OnlyBindMovesPayers : Type 0
+  OnlyBindMovesPayers =
+      (s : Tables) → Reached 𝓜 s → (q : Call) → isStart q ≡ false → isBind q ≡ false → KeepsPayers s (step 𝓜 s q .after)
+
+  -- A bind moves the payer of its cell, and of all that lead to it, to the payer of the other; of no other cell.
+  pub record MovesPayers (s s′ : Tables) (w c x : ℕ) : Type 0 where
+    pub of-those : (v d : ℕ) → CellLeadsTo 𝓜 s v d w c → payer 𝓜 s′ v d ≡ payer 𝓜 s w x
+    pub of-no-other : (v d : ℕ) → (CellLeadsTo 𝓜 s v d w c → ⊥) → payer 𝓜 s′ v d ≡ payer 𝓜 s v d
+
+  abbrev pub BindMovesPayers : Type 0
+  BindMovesPayers =
+      (s : Tables) → Reached 𝓜 s → (w c x : ℕ) → succeeds (step 𝓜 s (Bind w c x) .outcome) ≡ true → MovesPayers s (step 𝓜 s (Bind w c x) .after) w c x
+
+  -- Demand 3, whole, that a reference keeps its context, a context its caller, and a cell its payer.
   pub record Demand3 : Type 0 where
     pub every-sequence : EverySequence
     pub stays-sound : StaysSound
@@ -208,3 +242,7 @@ module _ (𝓜 : Machine) where
     pub reference-keeps-naming : ReferenceKeepsNaming
     pub reference-keeps-context : ReferenceKeepsContext
     pub callers-kept : CallersKept
+    pub every-cell-is-paid : EveryCellIsPaid
+    pub context-pays : ContextPays
+    pub only-bind-moves-payers : OnlyBindMovesPayers
+    pub bind-moves-payers : BindMovesPayers

@@ -58,6 +58,20 @@ isStart (AskWeight w c) = false
 isStart (Deliver k) = false
 isStart Bound = false
 
+abbrev pub isBind : Call → Bool
+isBind (Start p) = false
+isBind (New w caller) = false
+isBind (Set w c n) = false
+isBind (Bind w c x) = true
+isBind (Export w c to) = false
+isBind (Indirect w c to) = false
+isBind (Transfer w c to) = false
+isBind (Drop w c) = false
+isBind (ReadCell w c) = false
+isBind (AskWeight w c) = false
+isBind (Deliver k) = false
+isBind Bound = false
+
 -- the states reached from an accepted start by calls with no start among them, refused ones included
 pub data Reached (𝓜 : Machine) : Tables → Type 0 where
   begun : (p : ℕ) → succeeds (start 𝓜 p .outcome) ≡ true → Reached 𝓜 (start 𝓜 p .after)

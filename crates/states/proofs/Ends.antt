@@ -10,8 +10,8 @@ use Rattle.tables.specs.declared.Holding.{Holding}
 use Rattle.tables.specs.declared.Holding.the-variants.{Unused, Live}
 use Rattle.tables.specs.declared.Place.the-variants.{At}
 use Rattle.tables.specs.Machine.{Machine, Tables}
-use Rattle.tables.specs.Parts.{isFree, isVar, isVal, isEx, namedBy, isLive, entryNames, cellOf}
-use Rattle.tables.specs.Look.{cell, entry, endKind}
+use Rattle.tables.specs.Parts.{isFree, isVar, isVal, isEx, namedBy, endFrom, isLive, entryNames, cellOf}
+use Rattle.tables.specs.Look.{cell, entry, end, endKind}
 use Rattle.states.specs.Chains.{entryEnd, follow}
 use Rattle.states.specs.Facts.{Facts}
 use Rattle.states.proofs.Named.{the-ex, the-live}
@@ -55,23 +55,25 @@ module _ (𝓜 : Machine) (s : Tables) (F : Facts 𝓜 s) where
       ∙ sym (ap (λ x. namedBy (entryEnd 𝓜 s o x)) (l .is))
       ∙ q
 
-  -- ---- a live entry whose cell has a VAR or a VAL as its end names that VAR or VAL itself
-  own-end : (o d : ℕ) → VarOrVal (endKind 𝓜 s o d) → endKind 𝓜 s o d ≡ cell 𝓜 s o d
+  -- ---- a cell that has a VAR or a VAL as its end is that VAR or VAL itself
+  pub own-end : (o d : ℕ) → VarOrVal (endKind 𝓜 s o d) → end 𝓜 s o d ≡ d
+  unfolding end
   own-end o d t = go (cell 𝓜 s o d) refl
     where
-      go : (k : Kind) → cell 𝓜 s o d ≡ k → endKind 𝓜 s o d ≡ cell 𝓜 s o d
-      go Free q = end-self 𝓜 s o d Free q refl ∙ sym q
-      go (Var caller) q = end-self 𝓜 s o d (Var caller) q refl ∙ sym q
-      go (Val n caller) q = end-self 𝓜 s o d (Val n caller) q refl ∙ sym q
+      go : (k : Kind) → cell 𝓜 s o d ≡ k → endFrom k d ≡ d
+      go Free q = refl
+      go (Var caller) q = refl
+      go (Val n caller) q = refl
       go (Ref y) q =
           let x = the-ex (endKind 𝓜 s o d) (ap isEx (end-ref 𝓜 s o d y q) ∙ cell-fact 𝓜 s F o d q .1) in
           absurd-bool t (ap (λ (k : Kind). isVar k || isVal k) (x .is))
-      go (Ex a b n st w) q = end-self 𝓜 s o d (Ex a b n st w) q refl ∙ sym q
+      go (Ex a b n st w) q = refl
 
   pub own-context : (a b : ℕ) → isLive (entry 𝓜 s a b) ≡ true → VarOrVal (entryEnd 𝓜 s a (entry 𝓜 s a b))
       → (entryNames (cellOf (entry 𝓜 s a b)) (entry 𝓜 s a b) ≡ true) × VarOrVal (cell 𝓜 s a (cellOf (entry 𝓜 s a b)))
+  unfolding endKind
   own-context a b live = go (entry 𝓜 s a b) live
     where
       go : (x : Holding) → isLive x ≡ true → VarOrVal (entryEnd 𝓜 s a x) → (entryNames (cellOf x) x ≡ true) × VarOrVal (cell 𝓜 s a (cellOf x))
       go Unused l t = absurd-bool l refl
-      go (Live d n u) l t = (eq-eqb d d refl, sym (ap (λ (k : Kind). isVar k || isVal k) (own-end a d t)) ∙ t)
+      go (Live d n u) l t = (eq-eqb d d refl, subst (λ (y : ℕ). VarOrVal (cell 𝓜 s a y)) (own-end a d t) t)

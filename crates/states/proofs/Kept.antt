@@ -32,16 +32,21 @@ use Rattle.states.proofs.Stored.{Stored, stored-each, stored-all, store
 use Rattle.states.proofs.Next.{cell-stored, entry-stored, messages-all, next-sized, cells-total, slots-total, free-count}
 
 -- ---- cells that look the same to others
--- what an EX's name says is the same of cells that look the same
-pub shown-name : {X : Type 0} (d : X) (f : ℕ → ℕ → X) (j k : Kind) → shown j ≡ shown k → onEx d (λ o e n st a. f o e) j ≡ onEx d (λ o e n st a. f o e) k
-shown-name d f j k q = sym (unshown j) ∙ ap (onEx d (λ o e n st a. f o e)) q ∙ unshown k
+-- what does not look at an EX's weight and marks says the same of cells that look the same
+pub shown-says : {X : Type 0} (f : Kind → X) → ((o e n : ℕ) (st : Status) (a : Bool) → f (Ex o e 0 Idle false) ≡ f (Ex o e n st a))
+    → (j k : Kind) → shown j ≡ shown k → f j ≡ f k
+shown-says f blind j k q = sym (unshown j) ∙ ap f q ∙ unshown k
   where
-    unshown : (y : Kind) → onEx d (λ o e n st a. f o e) (shown y) ≡ onEx d (λ o e n st a. f o e) y
+    unshown : (y : Kind) → f (shown y) ≡ f y
     unshown Free = refl
     unshown (Var caller) = refl
     unshown (Val n caller) = refl
     unshown (Ref c) = refl
-    unshown (Ex o e n st a) = refl
+    unshown (Ex o e n st a) = blind o e n st a
+
+-- as what an EX's name says
+pub shown-name : {X : Type 0} (d : X) (f : ℕ → ℕ → X) (j k : Kind) → shown j ≡ shown k → onEx d (λ o e n st a. f o e) j ≡ onEx d (λ o e n st a. f o e) k
+shown-name d f j k q = shown-says (onEx d (λ o e n st a. f o e)) (λ o e n st a. refl) j k q
 
 -- a cell that looks like something other than an EX is it
 pub shown-plain : (j k : Kind) → isEx k ≡ false → shown j ≡ k → j ≡ k

@@ -3,7 +3,7 @@
 use Prim.Native.Nat.{ℕ, _+_, _*_, _<_, _≤_}
 use native.Mathlib.Omega.{arith}
 use mathlib.Core.Path.{_≡_, refl, ap, ap₂, _∙_}
-use mathlib.Core.Bool.{Bool, true, false, _&&_, _||_, cond}
+use mathlib.Core.Bool.{Bool, true, false, _&&_, cond}
 use mathlib.Core.List.{List}
 use mathlib.Core.Logic.{_⊎_, inl, inr}
 use lib.Dec.{eqb}
@@ -23,7 +23,7 @@ use Rattle.tables.specs.declared.Holding.the-variants.{Unused}
 use Rattle.tables.specs.declared.Message.{Message}
 use Rattle.tables.specs.declared.Message.the-variants.{Empty}
 use Rattle.tables.specs.Machine.{Machine, Tables, withCells, withEntries, withSlots}
-use Rattle.tables.specs.Parts.{readingOf, isFree, isVar, isVal, hasCaller, isEx, isReading, isAsking, exNames, isLive, isTainted, entryNames, entryWeight, goesTo, cellOf}
+use Rattle.tables.specs.Parts.{readingOf, isFree, isVar, isVal, isReading, isAsking, exNames, isLive, isTainted, entryNames, entryWeight, goesTo, cellOf}
 use Rattle.tables.specs.Look.{cell, entry, exported, busy, booked, freeCells, message, putCell, putEntry, putMessage}
 use Rattle.tables.specs.Laws.{cell-in, entry-in}
 use Rattle.states.specs.Sound.{readsFor, asksFor, cellHolds, messageHolds}
@@ -107,8 +107,6 @@ module _ (𝓜 : Machine) (L : Laws 𝓜) (s : Tables) where
     pub message-ok : (m ≡ m₀) ⊎ MessageFact 𝓜 (next 𝓜 s (cellMove 𝓜 s w c k₀ k i m₀ m)) m
     pub busy-kept : busy 𝓜 s w c ≡ true → isVar k₀ ≡ false → shown k ≡ shown k₀
     pub var-kept : exported 𝓜 s w c ≡ true → isVar k₀ ≡ true → VarBecomes 𝓜 s w k
-    pub ex-kept : (a b : ℕ) → exNames a b k₀ ≡ true → isEx k ≡ true → exNames a b k ≡ true
-    pub caller-kept : (who : ℕ) → hasCaller who k₀ ≡ true → (isVar k || isVal k) ≡ true → hasCaller who k ≡ true
     pub reference-kept : (m ≡ m₀) ⊎ ReferenceGoes w k m₀
     pub ex-new : (d a b : ℕ) → exNames a b k ≡ true → exNames a b (cell 𝓜 s w d) ≡ true → d ≡ c
     pub reads : (v d : ℕ)
@@ -130,8 +128,6 @@ module _ (𝓜 : Machine) (L : Laws 𝓜) (s : Tables) where
           message-ok = M .message-ok;
           busy-kept = M .busy-kept;
           var-kept = M .var-kept;
-          ex-kept = M .ex-kept;
-          caller-kept = M .caller-kept;
           reference-kept = M .reference-kept;
           entry-kept = λ a b. (refl, refl);
           ex-new = M .ex-new;
@@ -173,8 +169,6 @@ module _ (𝓜 : Machine) (L : Laws 𝓜) (s : Tables) where
           message-ok = inr (M .message-ok);
           busy-kept = λ b v. refl;
           var-kept = λ x v. absurd-bool v refl;
-          ex-kept = λ x y t u. t;
-          caller-kept = λ who t u. t;
           reference-kept = inr (M .reference-kept);
           ex-new = λ d x y t u. F .ex-once w d c x y u (ap (exNames x y) (M .old-cell) ∙ t);
           reads = M .reads;
@@ -212,8 +206,6 @@ module _ (𝓜 : Machine) (L : Laws 𝓜) (s : Tables) where
           message-ok = inr (M .message-ok);
           busy-kept = λ b v. refl;
           var-kept = λ t v. stays (or-l (isVal (cell 𝓜 s 0 0)) v);
-          ex-kept = λ a b t u. t;
-          caller-kept = λ who t u. t;
           reference-kept = inr (M .reference-kept 0 (cell 𝓜 s 0 0));
           entry-kept = M .entry-kept;
           ex-new = λ d a b t u. F .ex-once 0 d 0 a b u t;

@@ -25,7 +25,7 @@ pub record Stored {A : Type 0} (old new : ℕ → ℕ → A) (w c : ℕ) (a b : 
   pub there : (v d : ℕ) → (w ≡ v → c ≡ d → ⊥) → new v d ≡ old v d
 
 -- two places are one, or not
-spot : (w c v d : ℕ) → ((w ≡ v) × (c ≡ d)) ⊎ (w ≡ v → c ≡ d → ⊥)
+pub spot : (w c v d : ℕ) → ((w ≡ v) × (c ≡ d)) ⊎ (w ≡ v → c ≡ d → ⊥)
 spot w c v d = go (ℕ-discrete w v) (ℕ-discrete c d)
   where
     go : Dec (w ≡ v) → Dec (c ≡ d) → ((w ≡ v) × (c ≡ d)) ⊎ (w ≡ v → c ≡ d → ⊥)

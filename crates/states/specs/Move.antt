@@ -15,7 +15,7 @@ use Rattle.tables.specs.declared.Message.{Message}
 use Rattle.tables.specs.declared.Message.the-variants.{Empty, Reference, Release, Read, Answer, Ask, Supply}
 use Rattle.tables.specs.declared.Place.the-variants.{At}
 use Rattle.tables.specs.Machine.{Machine, Tables, withCells, withEntries, withSlots}
-use Rattle.tables.specs.Parts.{onEx, isFree, isVar, isVal, hasCaller, isEx, isReading, isAsking, exNames, isLive, isTainted, entryNames, entryWeight, goesTo, cellOf}
+use Rattle.tables.specs.Parts.{onEx, isFree, isVar, isVal, isReading, isAsking, exNames, isLive, isTainted, entryNames, entryWeight, goesTo, cellOf}
 use Rattle.tables.specs.Look.{cell, entry, safe, exported, busy, booked, freeCells, message}
 use Rattle.states.specs.Chains.{follow}
 use Rattle.states.specs.Sound.{readsFor, asksFor, cellHolds, messageHolds}
@@ -80,10 +80,6 @@ pub record Keeps (𝓜 : Machine) (s : Tables) (h : Move) : Type 0 where
   -- a busy cell stays what others see of it, but for an exported VAR
   pub busy-kept : busy 𝓜 s (h .w) (h .c) ≡ true → isVar (h .k₀) ≡ false → shown (h .k) ≡ shown (h .k₀)
   pub var-kept : exported 𝓜 s (h .w) (h .c) ≡ true → isVar (h .k₀) ≡ true → VarBecomes 𝓜 s (h .w) (h .k)
-  -- an EX that stays one names the entry that it named
-  pub ex-kept : (a b : ℕ) → exNames a b (h .k₀) ≡ true → isEx (h .k) ≡ true → exNames a b (h .k) ≡ true
-  -- a VAR or a VAL that stays one keeps its caller
-  pub caller-kept : (who : ℕ) → hasCaller who (h .k₀) ≡ true → (isVar (h .k) || isVal (h .k)) ≡ true → hasCaller who (h .k) ≡ true
   pub reference-kept : (h .m ≡ h .m₀) ⊎ ReferenceGoes (h .w) (h .k) (h .m₀)
   -- a live entry that stays live keeps its cell and its taint
   pub entry-kept : isLive (h .x₀) ≡ true → isLive (h .x) ≡ true → (cellOf (h .x) ≡ cellOf (h .x₀)) × (isTainted (h .x) ≡ isTainted (h .x₀))

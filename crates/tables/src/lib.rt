@@ -170,6 +170,7 @@ pub enum Refusal {
     NoMessage,
     NotReady,
     NoCaller,
+    TooManyCharges,
 }
 
 // A call's answer: done with a value, sent with its slot, or without a value.
