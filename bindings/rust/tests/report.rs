@@ -1,11 +1,13 @@
 //! The cost report of W-202 on the model: reports worked out by hand from the
-//! documents, and what holds of every report over states reached from a start.
+//! documents, those of the library's test program `report_cases` line by line,
+//! and what holds of every report over states reached from a start.
 
 use endrusp::generate::{self, Random};
 use endrusp::model::{
     self, Answer, CELLS, Call, Cell, Charge, ENTRIES, Entry, Ex, MOST_CHARGES, Message, Outcome,
     Refusal, Report, State, Value, WORKERS,
 };
+use std::fmt::Write;
 
 fn started(p: u8) -> State {
     let mut state = State::closed();
@@ -494,6 +496,139 @@ fn a_chain_of_as_many_references_as_there_are_live_entries() {
     assert_eq!((w, c), (0, 16));
     let expected = reported(&[(200, i64::from(i32::MAX))], 0, 1, 0);
     assert_eq!(state.report(&[charge(0, 16, i32::MAX)]), expected);
+}
+
+// ------------------------------------------------ the lines of `report_cases`
+
+/// What the library's test program `report_cases` writes, by the file that it
+/// is held to: a line for each report.
+const WRITTEN: &str = include_str!("../../../crates/report_cases/stdout");
+
+/// The state after these frames, none of which is refused.
+fn after(mut state: State, frames: &[&str]) -> State {
+    for frame in frames {
+        let call = model::decode(frame.as_bytes()).expect("a frame");
+        value(&mut state, call);
+    }
+    state
+}
+
+/// Charges by the worker and cell of each, and their amounts.
+fn charges<const N: usize>(places: [(u8, u8); N], amounts: [i32; N]) -> Vec<Charge> {
+    let each = places.into_iter().zip(amounts);
+    each.map(|((w, c), amount)| charge(w, c, amount)).collect()
+}
+
+/// A report as the program writes it.
+fn line(name: &str, report: &Report) -> String {
+    let (code, _) = model::code_and_value(Some(report.outcome));
+    let mut line = format!("{name}: {code:02x}");
+    for (caller, total) in report.totals.iter().enumerate().filter(|(_, total)| **total != 0) {
+        write!(line, "; {caller}: {total}").expect("a string has room");
+    }
+    let Report { unplaced, placed, missed, .. } = report;
+    writeln!(line, "; placed {placed}, unplaced {missed}: {unplaced}").expect("a string has room");
+    line
+}
+
+/// The same states, by the same frames or made by hand, and the same charges.
+#[test]
+fn the_model_writes_what_report_cases_writes() {
+    let closed = State::closed;
+    // As `two_callers`.
+    let shared = after(
+        closed(),
+        &[
+            "0102000000000000",
+            "0200000000000007",
+            "0500000100000000",
+            "0b00000000000000",
+            "0201000000000009",
+        ],
+    );
+    // As `before_the_bind`, with callers 3, 4 and 5, and the bind.
+    let chained = after(
+        closed(),
+        &[
+            "0103000000000000",
+            "0200000000000003",
+            "0500000100000000",
+            "0b00000000000000",
+            "0201000000000004",
+            "0501010200000000",
+            "0b00000000000000",
+            "0401010000000000",
+            "0202000000000005",
+            "0402010000000000",
+        ],
+    );
+    // The VAR set to 8, and cell 0 of worker 1 read and answered.
+    let known = after(
+        chained.clone(),
+        &["0300000000000008", "0901000000000000", "0b00000000000000", "0b00000000000000"],
+    );
+    // VARs of callers 0, 1, 254 and 255.
+    let four_callers = after(
+        closed(),
+        &[
+            "0101000000000000",
+            "0200000000000000",
+            "0200000000000001",
+            "02000000000000fe",
+            "02000000000000ff",
+        ],
+    );
+    let mut looped = looped();
+    looped.cells[1][1] = Cell::Var { caller: 6 };
+    // An entry on which nothing is held.
+    let mut unsound = State { workers: 2, ..closed() };
+    unsound.cells[0][0] = Cell::Var { caller: 4 };
+    unsound.entries[0][0] = Some(Entry { cell: 0, weight: 1, tainted: false });
+
+    let mut written = String::new();
+    let mut show = |name: &str, state: &State, charges: &[Charge]| {
+        written += &line(name, &state.report(charges));
+    };
+
+    let three = charges([(0, 0), (1, 0), (1, 1)], [250, 40, -15]);
+    let back = charges([(1, 1), (1, 0), (0, 0)], [-15, 40, 250]);
+    show("three charges", &shared, &three);
+    show("in another order", &shared, &back);
+    show("one charge", &shared, &three[..1]);
+    show("no charge", &shared, &[]);
+
+    let each = [(0, 0), (0, 1), (0, 2), (0, 3), (0, 9)];
+    let ends = [0, -1, i32::MIN, i32::MAX, -1];
+    show("each to its own", &four_callers, &charges(each, ends));
+    show("all to one", &four_callers, &charges([(0, 3); 5], ends));
+    show("corrected", &four_callers, &charges([(0, 3); 2], [i32::MAX, -i32::MAX]));
+
+    let lowest = vec![charge(0, 3, i32::MIN); 65_536];
+    show("65535, the lowest", &four_callers, &lowest[..65_535]);
+    show("65536", &four_callers, &lowest);
+    show("65535, the highest", &four_callers, &vec![charge(0, 0, i32::MAX); 65_535]);
+    show("65535, a free cell", &four_callers, &vec![charge(0, 4, i32::MIN); 65_535]);
+
+    let amounts = [1, 10, 100, 1_000, 10_000];
+    let along = charges([(2, 1), (2, 0), (1, 1), (1, 0), (0, 0)], amounts);
+    show("a chain", &chained, &along);
+    show("through a known EX", &known, &along);
+    show("a loop", &looped, &charges([(0, 0), (1, 0), (1, 1)], [1, 10, 100]));
+
+    let free = charges([(0, 1), (0, 31), (1, 2), (1, 31), (0, 0)], amounts);
+    let workers = charges([(2, 0), (7, 0), (8, 0), (255, 0), (0, 0)], amounts);
+    let cells = charges([(0, 32), (1, 32), (0, 255), (255, 255), (0, 0)], amounts);
+    show("free cells", &shared, &free);
+    show("no such worker", &shared, &workers);
+    show("no such cell", &shared, &cells);
+    show("the closed state", &closed(), &free);
+
+    let ones = vec![charge(0, 0, 1); 65_536];
+    show("not sound", &unsound, &ones[..5]);
+    show("not sound, 65536", &unsound, &ones);
+    show("not sound, none", &unsound, &[]);
+
+    assert_eq!(written, WRITTEN);
 }
 
 // ------------------------------------------- states reached from a start

@@ -4,7 +4,7 @@
 use Prim.Native.Nat.{ℕ, zero, suc, _+_, _≤_, _<_}
 use native.Mathlib.Omega.{arith}
 use mathlib.Core.Path.{_≡_, refl, sym, ap, ap₂, subst, _∙_}
-use mathlib.Core.Bool.{Bool, true, false, not}
+use mathlib.Core.Bool.{Bool, true, false, _&&_, not}
 use mathlib.Core.Logic.{_⊎_, inl, inr}
 use mathlib.Core.List.{List, [], _∷_}
 use lib.Dec.{eqb}
@@ -129,7 +129,7 @@ pub record Promised (s : State) : Type 0 where
   pub callers-kept : (q : Call) → isStart q ≡ false → (r : Reply) → Replies s q r → KeepsCallers eight (tables s) (tables (r .state))
   pub every-cell-is-paid : (w c : ℕ) → isCaller (payer eight (tables s) w c) ≡ not (isFree (cell eight (tables s) w c))
   pub context-pays : (w c v d : ℕ) → CellLeadsTo eight (tables s) w c v d → payer eight (tables s) w c ≡ callerOf (cell eight (tables s) v d)
-  pub only-bind-moves-payers : (q : Call) → isStart q ≡ false → isBind q ≡ false → (r : Reply) → Replies s q r
+  pub only-bind-moves-payers : (q : Call) → isStart q ≡ false → (r : Reply) → Replies s q r → (isBind q && succeeds (r .outcome)) ≡ false
       → KeepsPayers eight (tables s) (tables (r .state))
   pub bind-moves-payers : (w c x : ℕ) (r : Reply) → Replies s (Bind w c x) r → succeeds (r .outcome) ≡ true
       → MovesPayers eight (tables s) (tables (r .state)) w c x
@@ -253,7 +253,9 @@ promised s g =
       every-cell-is-paid = D .every-cell-is-paid (tables s) r;
       context-pays = D .context-pays (tables s) r;
       only-bind-moves-payers =
-          λ q n b x m. subst (KeepsPayers eight (tables s)) (sym (next-is s q x m)) (D .only-bind-moves-payers (tables s) r q n b);
+          λ q n x m not-bind.
+          let refused = sym (ap (λ (y : Reply). isBind q && succeeds (y .outcome)) (reply-is s q x m)) ∙ not-bind in
+          subst (KeepsPayers eight (tables s)) (sym (next-is s q x m)) (D .only-bind-moves-payers (tables s) r q n refused);
       bind-moves-payers =
           λ w c x a m ok.
           let done = sym (ap (λ (y : Reply). succeeds (y .outcome)) (reply-is s (Bind w c x) a m)) ∙ ok in

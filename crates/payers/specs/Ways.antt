@@ -34,13 +34,13 @@ module _ (𝓜 : Machine) where
   cellCount = 𝓜 .workers * 𝓜 .cells
 
   -- the place of the cell c of worker w in a table of all cells; past the last where there is none
-  unfoldable pub cellNumber : ℕ → ℕ → ℕ
-  cellNumber w c = cond (ltb w (𝓜 .workers) && ltb c (𝓜 .cells)) (w * 𝓜 .cells + c) cellCount
+  unfoldable pub tablePlace : ℕ → ℕ → ℕ
+  tablePlace w c = cond (ltb w (𝓜 .workers) && ltb c (𝓜 .cells)) (w * 𝓜 .cells + c) cellCount
 
   -- of the cell that an entry of worker w names
   abbrev pub ledTo : ℕ → Holding → ℕ
   ledTo w Unused = cellCount
-  ledTo w (Live c n t) = cellNumber w c
+  ledTo w (Live c n t) = tablePlace w c
 
   -- and that the entry at a place names, which holds this
   abbrev pub nextCell : Place → Holding → ℕ
@@ -104,13 +104,22 @@ module _ (𝓜 : Machine) (s : Tables) where
   abbrev inside : ℕ → ℕ → Bool
   inside w c = ltb w (𝓜 .workers) && ltb c (𝓜 .cells)
 
+  end-free : (w c : ℕ) → cell 𝓜 s w c ≡ Free → endKind 𝓜 s w c ≡ Free
+  unfolding endKind end
+  end-free w c q = rw q q
+
   end-outside : (w c : ℕ) → inside w c ≡ false → endKind 𝓜 s w c ≡ Free
-  unfolding endKind end cell
-  end-outside w c h = rw (h, h)
+  unfolding cell
+  end-outside w c h = end-free w c (rw h)
+
+  -- a free cell, and one that is out of range
+  pub payer-free : (w c : ℕ) → cell 𝓜 s w c ≡ Free → payer 𝓜 s w c ≡ 256
+  unfolding payer
+  payer-free w c q = ap (paysFrom 𝓜 s (liveEntries s)) (end-free w c q) ∙ pays-free (liveEntries s)
 
   pub payer-outside : (w c : ℕ) → inside w c ≡ false → payer 𝓜 s w c ≡ 256
-  unfolding payer
-  payer-outside w c h = ap (paysFrom 𝓜 s (liveEntries s)) (end-outside w c h) ∙ pays-free (liveEntries s)
+  unfolding cell
+  payer-outside w c h = payer-free w c (rw h)
 
   -- ---- what the code reads is the end
   pub end-read : (i : ℕ) → i / 𝓜 .cells < 𝓜 .workers → i % 𝓜 .cells < 𝓜 .cells
@@ -136,7 +145,7 @@ module _ (𝓜 : Machine) (s : Tables) where
   -- one step, of an end that holds k
   one : (m : ℕ) (k : Kind) → ((j : ℕ) → j < n → step m j ≡ paysFrom 𝓜 s m (endAt j))
       → cond (ltb (wayOn k) n) (step m (wayOn k)) (callerOf k) ≡ paysFrom 𝓜 s (suc m) k
-  unfolding wayOn paysFrom entryThere cellNumber
+  unfolding wayOn paysFrom entryThere tablePlace
   one m Free rec = rw (le-ltb n n (omega arith))
   one m (Var caller) rec = rw (le-ltb n n (omega arith))
   one m (Val v caller) rec = rw (le-ltb n n (omega arith))

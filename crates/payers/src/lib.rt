@@ -4,7 +4,7 @@ ghost use mathlib.Core.Path.{_≡_};
 ghost use Prim.Native.Nat.{_<_};
 ghost use Rattle.tables.specs.Parts.{callerOf};
 ghost use Rattle.tables.specs.Machine.{eight, tables};
-ghost use Rattle.payers.specs.Ways.{cellNumber, ledTo, nextCell, waysOf, paysBy, payersOf};
+ghost use Rattle.payers.specs.Ways.{tablePlace, ledTo, nextCell, waysOf, paysBy, payersOf};
 use tables::ALL_CELLS;
 use tables::CELL_ROW;
 use tables::CELLS;
@@ -14,10 +14,10 @@ use tables::Place;
 use tables::State;
 use tables::WORKERS;
 
-// No caller, and no cell: one past the last.
+// No caller, and no cell: past the last of each.
 pub const NOBODY: u16 = 256;
 
-const NO_CELL: u16 = 256;
+const NO_CELL: u16 = ALL_CELLS as u16;
 
 // The way on from each cell, cell c of worker w at w * CELL_ROW + c: the caller of a VAR or a VAL that is its end, and the cell that an EX leads to
 // that is its end.
@@ -40,8 +40,8 @@ fn caller_of(k: Kind) -> u16
 }
 
 // The place of the cell c of worker w in the table.
-fn cell_number(w: u8, c: u8) -> u16
-    ensures { λ r. ⌜ r ≡ cellNumber eight w c ⌝ }
+fn table_place(w: u8, c: u8) -> u16
+    ensures { λ r. ⌜ r ≡ tablePlace eight w c ⌝ }
 {
     if WORKERS <= w {
         return NO_CELL;
@@ -49,7 +49,7 @@ fn cell_number(w: u8, c: u8) -> u16
     if CELLS <= c {
         return NO_CELL;
     }
-    w as u16 * 32 + c as u16
+    w as u16 * CELLS as u16 + c as u16
 }
 
 // The cell that an entry of worker w names.
@@ -58,7 +58,7 @@ fn led_to(w: u8, x: Holding) -> u16
 {
     match x {
         Holding::Unused => NO_CELL,
-        Holding::Live { cell, .. } => cell_number(w, cell),
+        Holding::Live { cell, .. } => table_place(w, cell),
     }
 }
 

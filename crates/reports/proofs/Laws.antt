@@ -29,8 +29,8 @@ use Rattle.places.specs.Places.{cellIndex}
 use Rattle.payers.specs.Ways.{payersOf, payer-outside}
 use Rattle.reports.specs.declared.Charge.{Charge}
 use Rattle.reports.specs.declared.Books.{Books}
-use Rattle.reports.specs.Report.{amountsOf, countOf, payerOf, belongsTo, isPlaced, accepted, reported, report}
-use Rattle.reports.specs.Booking.{openedOf, gained, payerSeen, payerIn, bookedOne, bookedAll, closedOf, count, Within}
+use Rattle.reports.specs.Report.{amountsOf, countOf, payerOf, belongsTo, isPlaced, taken, reported, report}
+use Rattle.reports.specs.Charging.{openedOf, gained, payerSeen, payerIn, chargedOne, chargedAll, finishedOf, count, Within}
 use Rattle.reports.proofs.Sizes.{gains-near, gains-fit-bits, gains-bits}
 
 -- ---- no total leaves its range
@@ -44,9 +44,9 @@ near-set (x ∷ xs) (suc i) (suc j) z m h k = near-set xs i j z m h k
 pub within-opened : (𝓜 : Machine) (s : Tables) (n : ℕ) → Within (openedOf 𝓜 s n) 0
 within-opened 𝓜 s n = (omega arith, (λ i. let h = ap natAbs (blank 256 i (pos 0)) in omega (arith, h)), omega arith)
 
-pub within-booked : (𝓜 : Machine) (b : Books) (c : Charge) (n : ℕ) → n ≤ 65534 → Within b n → SFits w32 (c .amount) → Within (bookedOne 𝓜 b c) (n + 1)
-unfolding bookedOne
-within-booked 𝓜 b c n few ok f = go (isCaller who)
+pub within-charged : (𝓜 : Machine) (b : Books) (c : Charge) (n : ℕ) → n ≤ 65534 → Within b n → SFits w32 (c .amount) → Within (chargedOne 𝓜 b c) (n + 1)
+unfolding chargedOne
+within-charged 𝓜 b c n few ok f = go (isCaller who)
   where
     who : ℕ
     who = payerIn 𝓜 (b .payers) c
@@ -93,8 +93,8 @@ module _ (b : Books) (c : Charge) (ok : Within b 65534) (f : SFits w32 (c .amoun
           unplaced = b .unplaced;
           placed = b .placed + 1;
           missed = b .missed;
-        }) (bookedOne eight b c)
-    unfolding bookedOne
+        }) (chargedOne eight b c)
+    unfolding chargedOne
     books-placed low e =
         rw (← is, lt-ltb who 256 low, gains-bits (getD (b .totals) who (pos 0)) (c .amount) (count b) few (ok .1 who) f r e)
 
@@ -106,8 +106,8 @@ module _ (b : Books) (c : Charge) (ok : Within b 65534) (f : SFits w32 (c .amoun
           unplaced = toZ w64 (ofZ w64 r);
           placed = b .placed;
           missed = b .missed + 1;
-        }) (bookedOne eight b c)
-    unfolding bookedOne
+        }) (chargedOne eight b c)
+    unfolding chargedOne
     books-unplaced high e = rw (← is, le-ltb who 256 high, gains-bits (b .unplaced) (c .amount) (count b) few (ok .2) f r e)
 
 -- ---- the charges one after the other
@@ -116,36 +116,36 @@ drop-at [] i d h = absurd (not-suc-le-zero h)
 drop-at (c ∷ cs) zero d h = refl
 drop-at (c ∷ cs) (suc i) d h = drop-at cs i d (le-of-suc-le-suc h)
 
-pub booked-next : (𝓜 : Machine) (b : Books) (cs : List Charge) (i : ℕ) (d : Charge) → i < length cs
-    → bookedAll 𝓜 (bookedOne 𝓜 b (getD cs i d)) (drop (i + 1) cs) ≡ bookedAll 𝓜 b (drop i cs)
-unfolding bookedAll
-booked-next 𝓜 b cs i d h = let e : i + 1 ≡ suc i = omega arith in rw (drop-at cs i d h, e)
+pub charged-next : (𝓜 : Machine) (b : Books) (cs : List Charge) (i : ℕ) (d : Charge) → i < length cs
+    → chargedAll 𝓜 (chargedOne 𝓜 b (getD cs i d)) (drop (i + 1) cs) ≡ chargedAll 𝓜 b (drop i cs)
+unfolding chargedAll
+charged-next 𝓜 b cs i d h = let e : i + 1 ≡ suc i = omega arith in rw (drop-at cs i d h, e)
 
-pub booked-end : (𝓜 : Machine) (b : Books) (cs : List Charge) (i : ℕ) → length cs ≤ i → bookedAll 𝓜 b (drop i cs) ≡ b
-unfolding bookedAll
-booked-end 𝓜 b cs i h = rw (drop-of-length-le cs h)
+pub charged-end : (𝓜 : Machine) (b : Books) (cs : List Charge) (i : ℕ) → length cs ≤ i → chargedAll 𝓜 b (drop i cs) ≡ b
+unfolding chargedAll
+charged-end 𝓜 b cs i h = rw (drop-of-length-le cs h)
 
--- ---- the charges that are booked: how many, and each of them
-pub accepted-length : (o : Outcome) (cs : List Charge) → cond (succeeds o) (length cs) 0 ≡ length (accepted o cs)
-accepted-length o cs = go (succeeds o)
+-- ---- the charges that are taken: how many, and each of them
+pub taken-length : (o : Outcome) (cs : List Charge) → cond (succeeds o) (length cs) 0 ≡ length (taken o cs)
+taken-length o cs = go (succeeds o)
   where
     go : (b : Bool) → cond b (length cs) 0 ≡ length (cond b cs [])
     go true = refl
     go false = refl
 
-pub accepted-at : (o : Outcome) (cs : List Charge) (i : ℕ) (d : Charge) → i < length (accepted o cs)
-    → (i < length cs) × (getD cs i d ≡ getD (accepted o cs) i d)
-accepted-at o cs i d = go (succeeds o)
+pub taken-at : (o : Outcome) (cs : List Charge) (i : ℕ) (d : Charge) → i < length (taken o cs)
+    → (i < length cs) × (getD cs i d ≡ getD (taken o cs) i d)
+taken-at o cs i d = go (succeeds o)
   where
     go : (b : Bool) → i < length (cond b cs []) → (i < length cs) × (getD cs i d ≡ getD (cond b cs []) i d)
     go true h = (h, refl)
     go false h = absurd (not-suc-le-zero h)
 
-pub accepted-few : (s : Tables) (cs : List Charge) → length (accepted (reported eight s (length cs)) cs) ≤ 65535
+pub taken-few : (s : Tables) (cs : List Charge) → length (taken (reported eight s (length cs)) cs) ≤ 65535
 unfolding checked
-accepted-few s cs = go (sound eight s) (ltb 65535 (length cs)) refl
+taken-few s cs = go (sound eight s) (ltb 65535 (length cs)) refl
   where
-    go : (a b : Bool) → ltb 65535 (length cs) ≡ b → length (accepted (checked (reportLines a (length cs)) (answered (Done 0)) .outcome) cs) ≤ 65535
+    go : (a b : Bool) → ltb 65535 (length cs) ≡ b → length (taken (checked (reportLines a (length cs)) (answered (Done 0)) .outcome) cs) ≤ 65535
     go true true e = rw e (omega arith)
     go true false e = rw e (ltb-false 65535 (length cs) e)
     go false b e = omega arith
@@ -181,8 +181,8 @@ module _ (𝓜 : Machine) where
         missed = omega arith;
       }
 
-  came-one : (b : Books) (c : Charge) → length (b .totals) ≡ 256 → Came (b .payers) b (bookedOne 𝓜 b c) (c ∷ [])
-  unfolding bookedOne amountsOf total
+  came-one : (b : Books) (c : Charge) → length (b .totals) ≡ 256 → Came (b .payers) b (chargedOne 𝓜 b c) (c ∷ [])
+  unfolding chargedOne amountsOf total
   came-one b c n = go (isCaller who) refl
     where
       who : ℕ
@@ -249,14 +249,14 @@ module _ (𝓜 : Machine) where
           let a = cond (p c) (c .amount) (pos 0) in
           ap (λ (q : ℤ). q +ℤ amountsOf p cs) (e ∙ ap (λ (q : ℤ). z +ℤ q) (+ℤ-idr a)) ∙ +ℤ-assoc z a (amountsOf p cs)
 
-  came-all : (cs : List Charge) (b : Books) → length (b .totals) ≡ 256 → Came (b .payers) b (bookedAll 𝓜 b cs) cs
-  unfolding bookedAll
+  came-all : (cs : List Charge) (b : Books) → length (b .totals) ≡ 256 → Came (b .payers) b (chargedAll 𝓜 b cs) cs
+  unfolding chargedAll
   came-all [] b n = came-none b n
   came-all (c ∷ cs) b n =
-      let m = bookedOne 𝓜 b c in
+      let m = chargedOne 𝓜 b c in
       let one = came-one b c n in
-      let rest = subst (λ (l : List ℕ). Came l m (bookedAll 𝓜 m cs) cs) (one .payers-kept) (came-all cs m (one .size)) in
-      came-then (b .payers) b m (bookedAll 𝓜 m cs) c cs one rest
+      let rest = subst (λ (l : List ℕ). Came l m (chargedAll 𝓜 m cs) cs) (one .payers-kept) (came-all cs m (one .size)) in
+      came-then (b .payers) b m (chargedAll 𝓜 m cs) c cs one rest
 
 -- ---- the table of payers says who pays
 payer-in : (s : Tables) (c : Charge) → payerIn eight (payersOf eight s) c ≡ payerOf eight s c
@@ -283,19 +283,19 @@ unfolding amountsOf
 amounts-cong p q h [] = refl
 amounts-cong p q h (c ∷ cs) = ap₂ (λ (t : Bool) (z : ℤ). cond t (c .amount) (pos 0) +ℤ z) (h c) (amounts-cong p q h cs)
 
--- the books of the charges that are accepted are the report
+-- the books of the charges that are taken are the report
 pub report-is : (s : Tables) (cs : List Charge)
-    → closedOf (bookedAll eight (openedOf eight s (length cs)) (accepted (reported eight s (length cs)) cs)) ≡ report eight s cs
+    → finishedOf (chargedAll eight (openedOf eight s (length cs)) (taken (reported eight s (length cs)) cs)) ≡ report eight s cs
 unfolding report
 report-is s cs =
     let o = reported eight s (length cs) in
-    let zs = accepted o cs in
+    let zs = taken o cs in
     let first = openedOf eight s (length cs) in
     let came = came-all eight zs first (length-replicate 256 (pos 0)) in
     let same : (c : Charge) → places eight (payersOf eight s) c ≡ isPlaced eight s c = λ c. ap isCaller (payer-in s c) in
     let none : Charge = record { worker = 0; cell = 0; amount = pos 0 } in
     let totals =
-    listed-is (λ who. amountsOf (belongsTo eight s who) zs) (bookedAll eight first zs .totals) 256 (pos 0) (came .size)
+    listed-is (λ who. amountsOf (belongsTo eight s who) zs) (chargedAll eight first zs .totals) 256 (pos 0) (came .size)
     (λ who h.
     came .total-is who h
     ∙ ap (λ (z : ℤ). z +ℤ amountsOf (pays eight (payersOf eight s) who) zs) (blank 256 who (pos 0))

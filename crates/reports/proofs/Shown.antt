@@ -24,12 +24,13 @@ use Rattle.states.proofs.FromTest.{sound-facts}
 use Rattle.states.proofs.Derived.{cell-used}
 use Rattle.rules.specs.Answers.{succeeds, answered, _when_, checked}
 use Rattle.rules.specs.Payers.{isCaller, payer}
-use Rattle.rules.proofs.Payers.{free-pays}
+use Rattle.rules.proofs.Steps.{free-is}
 use Rattle.rules.proofs.Whole.{demand-3}
 use Rattle.rules.proofs.Eight.{eight-laws}
+use Rattle.payers.specs.Ways.{payer-free}
 use Rattle.reports.specs.declared.Charge.{Charge}
 use Rattle.reports.specs.declared.CostReport.{CostReport}
-use Rattle.reports.specs.Report.{amountsOf, countOf, payerOf, belongsTo, isPlaced, accepted, totalled, reported, report}
+use Rattle.reports.specs.Report.{amountsOf, countOf, payerOf, belongsTo, isPlaced, taken, totalled, reported, report}
 use Rattle.reports.specs.Statements.{sumOf, amounts, Reordered, none, first-stays, two-exchanged, and-then, IsDone, OrderDoesNotMatter, AllZero, NoWorkerIsUnplaced, OnlyFreeIsUnplaced, Shown}
 
 -- ---- sums
@@ -140,9 +141,9 @@ module _ (𝓜 : Machine) where
   unfolding report
   refused-is s cs h = ap (λ (t : Bool). totalled 𝓜 s (reported 𝓜 s (length cs)) (cond t cs [])) h
 
-  none-booked : (s : Tables) → report 𝓜 s [] ≡ totalled 𝓜 s (reported 𝓜 s 0) []
+  none-charged : (s : Tables) → report 𝓜 s [] ≡ totalled 𝓜 s (reported 𝓜 s 0) []
   unfolding report
-  none-booked s = go (succeeds (reported 𝓜 s 0))
+  none-charged s = go (succeeds (reported 𝓜 s 0))
     where
       go : (t : Bool) → totalled 𝓜 s (reported 𝓜 s 0) (cond t [] []) ≡ totalled 𝓜 s (reported 𝓜 s 0) []
       go true = refl
@@ -177,8 +178,8 @@ module _ (𝓜 : Machine) where
       either true o = same o
       either false o = refl
 
-      go : (o p : Outcome) → o ≡ p → totalled 𝓜 s o (accepted o cs) ≡ totalled 𝓜 s p (accepted p ds)
-      go o p e = either (succeeds o) o ∙ ap (λ (q : Outcome). totalled 𝓜 s q (accepted q ds)) e
+      go : (o p : Outcome) → o ≡ p → totalled 𝓜 s o (taken o cs) ≡ totalled 𝓜 s p (taken p ds)
+      go o p e = either (succeeds o) o ∙ ap (λ (q : Outcome). totalled 𝓜 s q (taken q ds)) e
 
 module _ (𝓜 : Machine) (L : Laws 𝓜) where
   -- a cell of a worker that there is none of is free
@@ -186,7 +187,7 @@ module _ (𝓜 : Machine) (L : Laws 𝓜) where
   no-worker s z h w c l = go (isFree (cell 𝓜 s w c)) refl
     where
       go : (t : Bool) → isFree (cell 𝓜 s w c) ≡ t → isCaller (payer 𝓜 s w c) ≡ false
-      go true e = ap isCaller (free-pays 𝓜 s w c e)
+      go true e = ap isCaller (payer-free 𝓜 s w c (free-is (cell 𝓜 s w c) e))
       go false e = let u = cell-used 𝓜 s (sound-facts 𝓜 L s z h) w c e in absurd (omega arith)
 
   reached : OnlyFreeIsUnplaced 𝓜
@@ -203,13 +204,19 @@ module _ (𝓜 : Machine) (L : Laws 𝓜) where
   shown : Shown 𝓜
   shown =
       record {
-        each-from-its-own = λ s cs h who low.
-            ap (λ (x : CostReport). getD (x .totals) who (pos 0)) (done-is 𝓜 s cs h) ∙ listed-at (λ k. amountsOf (belongsTo 𝓜 s k) cs) 256 who (pos 0) low;
+        each-from-its-own = λ s cs h.
+            let is = done-is 𝓜 s cs h in
+            record {
+              total = λ who low. ap (λ (x : CostReport). getD (x .totals) who (pos 0)) is ∙ listed-at (λ k. amountsOf (belongsTo 𝓜 s k) cs) 256 who (pos 0) low;
+              unplaced = ap (λ (x : CostReport). x .unplaced) is;
+              placed = ap (λ (x : CostReport). x .placed) is;
+              missed = ap (λ (x : CostReport). x .missed) is;
+            };
         nothing-is-lost = λ s cs h. ap (λ (x : CostReport). sumOf (x .totals) +ℤ x .unplaced) (done-is 𝓜 s cs h) ∙ all-amounts 𝓜 s 256 cs;
         all-are-counted = λ s cs h. ap (λ (x : CostReport). x .placed + x .missed) (done-is 𝓜 s cs h) ∙ all-counted 𝓜 s (isPlaced 𝓜 s) cs;
         order-does-not-matter = reordered 𝓜;
         refused-is-zero = λ s cs h. none-zero 𝓜 s cs (reported 𝓜 s (length cs)) (refused-is 𝓜 s cs h);
-        none-is-zero = λ s. none-zero 𝓜 s [] (reported 𝓜 s 0) (none-booked 𝓜 s);
+        none-is-zero = λ s. none-zero 𝓜 s [] (reported 𝓜 s 0) (none-charged 𝓜 s);
         no-worker-is-unplaced = no-worker;
         only-free-is-unplaced = reached;
       }

@@ -10,9 +10,8 @@ use Rattle.numbers.specs.Lists.{total, listed}
 use Rattle.tables.specs.declared.Outcome.{Outcome}
 use Rattle.tables.specs.declared.Outcome.the-variants.{Done}
 use Rattle.tables.specs.Machine.{Machine, Tables}
-use Rattle.states.specs.Sound.{sound}
 use Rattle.rules.specs.Answers.{succeeds, answered, checked}
-use Rattle.rules.specs.Refusals.{reportLines}
+use Rattle.rules.specs.Refusals.{reportRefusals}
 use Rattle.rules.specs.Payers.{isCaller, payer}
 use Rattle.reports.specs.declared.Charge.{Charge}
 use Rattle.reports.specs.declared.CostReport.{CostReport}
@@ -25,9 +24,9 @@ amountsOf p (c ∷ cs) = cond (p c) (c .amount) (pos 0) +ℤ amountsOf p cs
 abbrev pub countOf : (Charge → Bool) → List Charge → ℕ
 countOf p cs = total (λ c. bit (p c)) cs
 
--- "both leave all totals and both numbers of charges 0": where the report is refused, no charge is booked
-abbrev pub accepted : Outcome → List Charge → List Charge
-accepted outcome cs = cond (succeeds outcome) cs []
+-- "both leave all totals and both numbers of charges 0": where the report is refused, no charge is taken
+abbrev pub taken : Outcome → List Charge → List Charge
+taken outcome cs = cond (succeeds outcome) cs []
 
 module _ (𝓜 : Machine) (s : Tables) where
   -- "A charge belongs to the caller found by following ends and references from its cell to a VAR or VAL."
@@ -54,7 +53,7 @@ module _ (𝓜 : Machine) (s : Tables) where
 
   -- "Refusals: 2; then 17 for a longer list"
   abbrev pub reported : ℕ → Outcome
-  reported n = checked (reportLines (sound 𝓜 s) n) (answered (Done 0)) .outcome
+  reported n = checked (reportRefusals 𝓜 s n) (answered (Done 0)) .outcome
 
   unfoldable pub report : List Charge → CostReport
-  report cs = totalled (reported (length cs)) (accepted (reported (length cs)) cs)
+  report cs = totalled (reported (length cs)) (taken (reported (length cs)) cs)

@@ -16,7 +16,7 @@ use Rattle.rules.specs.Answers.{succeeds}
 use Rattle.rules.specs.Step.{Reached}
 use Rattle.rules.specs.Payers.{isCaller, payer}
 use Rattle.reports.specs.declared.Charge.{Charge}
-use Rattle.reports.specs.Report.{amountsOf, belongsTo, isPlaced, reported, report}
+use Rattle.reports.specs.Report.{amountsOf, countOf, belongsTo, isPlaced, reported, report}
 
 -- the sum of a list of numbers, and of the amounts of all charges
 unfoldable pub sumOf : List ℤ → ℤ
@@ -39,10 +39,15 @@ module _ (𝓜 : Machine) where
   abbrev pub IsDone : Tables → List Charge → Type 0
   IsDone s cs = succeeds (report 𝓜 s cs .outcome) ≡ true
 
-  -- "each total worked out from its own charges"
+  -- "each total worked out from its own charges", the unplaced one too, and each of the two numbers
+  pub record FromItsOwn (s : Tables) (cs : List Charge) : Type 0 where
+    pub total : (who : ℕ) → who < 256 → getD (report 𝓜 s cs .totals) who (pos 0) ≡ amountsOf (belongsTo 𝓜 s who) cs
+    pub unplaced : report 𝓜 s cs .unplaced ≡ amountsOf (λ c. not (isPlaced 𝓜 s c)) cs
+    pub placed : report 𝓜 s cs .placed ≡ countOf (isPlaced 𝓜 s) cs
+    pub missed : report 𝓜 s cs .missed ≡ countOf (λ c. not (isPlaced 𝓜 s c)) cs
+
   abbrev pub EachFromItsOwn : Type 0
-  EachFromItsOwn =
-      (s : Tables) (cs : List Charge) → IsDone s cs → (who : ℕ) → who < 256 → getD (report 𝓜 s cs .totals) who (pos 0) ≡ amountsOf (belongsTo 𝓜 s who) cs
+  EachFromItsOwn = (s : Tables) (cs : List Charge) → IsDone s cs → FromItsOwn s cs
 
   -- "callers' totals plus the unplaced total equal the sum of the amounts"
   abbrev pub NothingIsLost : Type 0

@@ -7,8 +7,9 @@ ghost use mathlib.Core.Bool.{cond};
 ghost use Rattle.tables.specs.Machine.{eight, tables};
 ghost use Rattle.rules.specs.Answers.{succeeds};
 ghost use Rattle.reports.specs.Report.{report};
-ghost use Rattle.reports.specs.Booking.{payerSeen, openedOf, bookedOne, closedOf, Within};
+ghost use Rattle.reports.specs.Charging.{payerSeen, openedOf, chargedOne, finishedOf, Within};
 use payers::NOBODY;
+use tables::ALL_CELLS;
 use tables::CELLS;
 use tables::Outcome;
 use tables::Refusal;
@@ -27,7 +28,7 @@ pub struct Charge {
     pub amount: i32,
 }
 
-// Done or refused; each caller's total, the unplaced total; how many charges were placed, and how many were not.
+// Done or refused; each caller's total, the unplaced total; how many charges were placed, and how many were not, which are missed.
 pub struct CostReport {
     pub outcome: Outcome,
     pub totals: [i64; CALLERS],
@@ -36,17 +37,17 @@ pub struct CostReport {
     pub missed: u32,
 }
 
-// A report while charges are booked, beside who pays for each cell.
+// A report that is being made, beside who pays for each cell.
 pub struct Books {
     pub outcome: Outcome,
-    pub payers: [u16; CALLERS],
+    pub payers: [u16; ALL_CELLS],
     pub totals: [i64; CALLERS],
     pub unplaced: i64,
     pub placed: u32,
     pub missed: u32,
 }
 
-// Nothing booked yet, of n charges.
+// Of n charges, before the first.
 fn opened(s: State, n: usize) -> Books
     ensures { λ r. ⌜ r ≡ openedOf eight (tables s) n ⌝ }
 {
@@ -67,8 +68,8 @@ fn opened(s: State, n: usize) -> Books
     }
 }
 
-// How many of n charges are booked: all, or none where the report is refused.
-fn accepted(b: Books, n: usize) -> usize
+// How many of n charges are taken: all, or none where the report is refused.
+fn taken(b: Books, n: usize) -> usize
     ensures { λ r. ⌜ r ≡ cond (succeeds (b .outcome)) n 0 ⌝ }
 {
     let outcome = b.outcome;
@@ -103,10 +104,10 @@ fn payer_seen(w: u8, c: u8, who: u16) -> u16
     who
 }
 
-// A charge booked: its payer's total gains the amount, or the unplaced one.
-fn booked(b: Books, c: Charge) -> Books
+// One charge more: its payer's total gains the amount, or the unplaced one.
+fn charged(b: Books, c: Charge) -> Books
     requires { ⌜ Within b 65534 ⌝ }
-    ensures { λ r. ⌜ r ≡ bookedOne eight b c ⌝ }
+    ensures { λ r. ⌜ r ≡ chargedOne eight b c ⌝ }
 {
     let mut u = b;
     let w = c.worker;
@@ -131,8 +132,8 @@ fn booked(b: Books, c: Charge) -> Books
 }
 
 // What the books have come to.
-fn closed(b: Books) -> CostReport
-    ensures { λ r. ⌜ r ≡ closedOf b ⌝ }
+fn finished(b: Books) -> CostReport
+    ensures { λ r. ⌜ r ≡ finishedOf b ⌝ }
 {
     let outcome = b.outcome;
     let totals = b.totals;
@@ -150,11 +151,11 @@ pub fn report(s: State, charges: &[Charge]) -> CostReport
     ensures { λ r. ⌜ r ≡ report eight (tables s) (now (charges .entry)) ⌝ }
 {
     let mut books = opened(s, charges.len());
-    let n = accepted(books, charges.len());
+    let n = taken(books, charges.len());
     let mut i = 0;
     while i < n {
-        books = booked(books, charges[i]);
+        books = charged(books, charges[i]);
         i = i + 1;
     }
-    closed(books)
+    finished(books)
 }

@@ -5,6 +5,7 @@ use native.Mathlib.Omega.{arith}
 use mathlib.Core.Path.{_≡_, refl, sym, ap, subst, _∙_}
 use mathlib.Core.Bool.{Bool, true, false, _&&_, _||_, cond}
 use mathlib.Core.List.{List}
+use mathlib.Core.Logic.{_⊎_, inl, inr}
 use lib.Dec.{eqb, ltb}
 use borrow.Author.Tests.{ltb-true, ltb-false, lt-ltb}
 use Rattle.numbers.specs.Tests.{absurd-bool, and-l, and-r}
@@ -15,6 +16,7 @@ use Rattle.tables.specs.declared.Kind.{Kind}
 use Rattle.tables.specs.declared.Kind.the-variants.{Free, Var, Val, Ref, Ex}
 use Rattle.tables.specs.declared.Message.{Message}
 use Rattle.tables.specs.declared.Message.the-variants.{Empty, Reference, Release, Read, Answer, Ask, Supply}
+use Rattle.tables.specs.declared.Holding.{Holding}
 use Rattle.tables.specs.declared.Change.{Change}
 use Rattle.tables.specs.declared.Change.the-variants.{Nothing, OfCell, OfSlot, OfCellAndSlot, OfEntryAndSlot}
 use Rattle.tables.specs.declared.Effect.{Effect}
@@ -22,7 +24,7 @@ use Rattle.tables.specs.declared.Call.{Call}
 use Rattle.tables.specs.declared.Call.the-variants.{Start, New, Set, Bind, Export, Indirect, Transfer, Drop, ReadCell, AskWeight, Deliver, Bound}
 use Rattle.tables.specs.Machine.{Machine, Tables}
 use Rattle.tables.specs.Parts.{onEx, isFree, isVar, isVal, hasCaller, callerOf, isEx, exNames}
-use Rattle.tables.specs.Look.{cell, end, endKind, exNaming, lowestFreeCell, lowestEmptySlot, message, putCell, putEntry, putMessage, changed}
+use Rattle.tables.specs.Look.{cell, entry, end, endKind, exNaming, lowestFreeCell, lowestEmptySlot, message, putCell, putEntry, putMessage, changed}
 use Rattle.states.specs.Machines.{Laws, Sized}
 use Rattle.states.specs.Move.{shown}
 use Rattle.states.proofs.Named.{the-ex, the-ex-of}
@@ -31,13 +33,13 @@ use Rattle.states.proofs.Ends.{VarOrVal}
 use Rattle.states.proofs.Stored.{Stored, stored-each}
 use Rattle.states.proofs.Next.{cell-stored}
 use Rattle.states.proofs.Moves.{cellMove, cell-placed, put-cell}
-use Rattle.rules.specs.Answers.{Check, checked}
+use Rattle.rules.specs.Answers.{Check, done, succeeds, checked}
 use Rattle.rules.specs.Calls.{valued, byLocation, byReference, dropped, readAt, askAt, new, set, bind, export, indirect, transfer, drop, read, ask, bound}
 use Rattle.rules.specs.Deliver.{joined, arrivalCell, deliverHome, deliverAway, deliverRelease, deliverRead, deliverAnswer, deliverSupply, deliverAsk, deliverMessage, deliver}
 use Rattle.rules.specs.Refusals.{used, newRefusals, setRefusals, bindRefusals, exportRefusals, indirectRefusals, transferRefusals, dropRefusals, readRefusals, askRefusals, deliverRefusals, boundRefusals}
 use Rattle.rules.specs.Order.{Passed}
 use Rattle.rules.specs.Payers.{isCaller}
-use Rattle.rules.specs.Step.{isStart, isBind, step}
+use Rattle.rules.specs.Step.{isStart, binds, step}
 use Rattle.rules.proofs.Steps.{checked-is, free-is, var-is, not-false}
 
 -- what a cell that held k₀ may hold then
@@ -105,6 +107,36 @@ module _ (𝓜 : Machine) (L : Laws 𝓜) (s : Tables) (z : Sized 𝓜 s) where
           go true t = rw t (same (cell 𝓜 s v c))
           go false t = rw t (same (cell 𝓜 s v c))
 
+-- a cell store leaves the entries
+pub put-entries : (𝓜 : Machine) (s : Tables) (w c : ℕ) (k : Kind) (a b : ℕ) → entry 𝓜 (putCell 𝓜 s w c k) a b ≡ entry 𝓜 s a b
+unfolding entry putCell
+put-entries 𝓜 s w c k a b = go (ltb w (𝓜 .workers) && ltb c (𝓜 .cells)) refl
+  where
+    go : (in-range : Bool) → (ltb w (𝓜 .workers) && ltb c (𝓜 .cells)) ≡ in-range → entry 𝓜 (putCell 𝓜 s w c k) a b ≡ entry 𝓜 s a b
+    go true t = rw t refl
+    go false t = rw t refl
+
+-- and an entry store the cells
+put-cells : (𝓜 : Machine) (s : Tables) (w e : ℕ) (x : Holding) (v c : ℕ) → cell 𝓜 (putEntry 𝓜 s w e x) v c ≡ cell 𝓜 s v c
+unfolding cell putEntry
+put-cells 𝓜 s w e x v c = go (ltb w (𝓜 .workers) && ltb e (𝓜 .entries)) refl
+  where
+    go : (in-range : Bool) → (ltb w (𝓜 .workers) && ltb e (𝓜 .entries)) ≡ in-range → cell 𝓜 (putEntry 𝓜 s w e x) v c ≡ cell 𝓜 s v c
+    go true t = rw t refl
+    go false t = rw t refl
+
+-- so no change is of both: it leaves all cells as they were, or all entries
+abbrev pub Leaves : Machine → Tables → Tables → Type 0
+Leaves 𝓜 s t = ((w c : ℕ) → cell 𝓜 t w c ≡ cell 𝓜 s w c) ⊎ ((a b : ℕ) → entry 𝓜 t a b ≡ entry 𝓜 s a b)
+
+changed-leaves : (𝓜 : Machine) (s : Tables) (d : Change) → Leaves 𝓜 s (changed 𝓜 s d)
+unfolding cell entry putMessage
+changed-leaves 𝓜 s Nothing = inl (λ w c. refl)
+changed-leaves 𝓜 s (OfCell w c k) = inr (put-entries 𝓜 s w c k)
+changed-leaves 𝓜 s (OfSlot i m) = inl (λ w c. refl)
+changed-leaves 𝓜 s (OfCellAndSlot w c k i m) = inr (put-entries 𝓜 s w c k)
+changed-leaves 𝓜 s (OfEntryAndSlot w e x i m) = inl (put-cells 𝓜 s w e x)
+
 -- ---- call by call
 module _ (𝓜 : Machine) (L : Laws 𝓜) (s : Tables) (z : Sized 𝓜 s) where
   -- a call puts into a cell what it may
@@ -133,10 +165,11 @@ module _ (𝓜 : Machine) (L : Laws 𝓜) (s : Tables) (z : Sized 𝓜 s) where
       go (Ref d) = looks-same refl
       go (Ex o e m st a) = looks-same refl
 
-  bind-puts : (w c x : ℕ) → CallPuts true (bind 𝓜 s w c x)
+  -- a bind binds where it is not refused
+  bind-puts : (w c x : ℕ) → CallPuts (succeeds (bind 𝓜 s w c x .outcome)) (bind 𝓜 s w c x)
   unfolding bind
   bind-puts w c x =
-      puts-checked 𝓜 L s z (Becomes true) (bindRefusals 𝓜 s w c x) _
+      checked-is (λ d. CallPuts (succeeds (d .outcome)) d) (bindRefusals 𝓜 s w c x) (done 0 (OfCell w c (Ref (end 𝓜 s w x)))) (λ why. tt)
       (λ p less. let q = var-is (cell 𝓜 s w c) (not-false (search)) in is-bound (end 𝓜 s w x) (q .0) refl (q .1) refl)
 
   export-puts : (w c to : ℕ) → CallPuts false (export 𝓜 s w c to)
@@ -221,12 +254,12 @@ module _ (𝓜 : Machine) (L : Laws 𝓜) (s : Tables) (z : Sized 𝓜 s) where
   each : (by-bind : Bool) (d : Effect) → CallPuts by-bind d → (w c : ℕ) → Becomes by-bind (cell 𝓜 s w c) (cell 𝓜 (changed 𝓜 s (d .change)) w c)
   each by-bind d p = changed-each 𝓜 L s z (Becomes by-bind) (λ k. looks-same refl) (d .change) p
 
-  pub step-becomes : (q : Call) → isStart q ≡ false → (w c : ℕ) → Becomes (isBind q) (cell 𝓜 s w c) (cell 𝓜 (step 𝓜 s q .after) w c)
+  pub step-becomes : (q : Call) → isStart q ≡ false → (w c : ℕ) → Becomes (binds 𝓜 s q) (cell 𝓜 s w c) (cell 𝓜 (step 𝓜 s q .after) w c)
   unfolding step indirect transfer deliver bound
   step-becomes (Start p) n = absurd-bool refl n
   step-becomes (New w caller) n = each false (new 𝓜 s w caller) (new-puts w caller)
   step-becomes (Set w c v) n = each false (set 𝓜 s w c v) (set-puts w c v)
-  step-becomes (Bind w c x) n = each true (bind 𝓜 s w c x) (bind-puts w c x)
+  step-becomes (Bind w c x) n = each (succeeds (bind 𝓜 s w c x .outcome)) (bind 𝓜 s w c x) (bind-puts w c x)
   step-becomes (Export w c to) n = each false (export 𝓜 s w c to) (export-puts w c to)
   step-becomes (Indirect w c to) n = each false (indirect 𝓜 s w c to) (puts-checked 𝓜 L s z (Becomes false) (indirectRefusals 𝓜 s w c to) _ (λ p. tt))
   step-becomes (Transfer w c to) n =
@@ -236,6 +269,22 @@ module _ (𝓜 : Machine) (L : Laws 𝓜) (s : Tables) (z : Sized 𝓜 s) where
   step-becomes (AskWeight w c) n = each false (ask 𝓜 s w c) (ask-puts w c)
   step-becomes (Deliver k) n = each false (deliver 𝓜 s k) (puts-checked 𝓜 L s z (Becomes false) (deliverRefusals 𝓜 s k) _ (λ p. message-puts k (message s k)))
   step-becomes Bound n = each false (bound 𝓜 s) (puts-checked 𝓜 L s z (Becomes false) (boundRefusals 𝓜 s) _ (λ p. tt))
+
+-- and no call changes a cell and an entry
+pub step-leaves : (𝓜 : Machine) (s : Tables) (q : Call) → isStart q ≡ false → Leaves 𝓜 s (step 𝓜 s q .after)
+unfolding step
+step-leaves 𝓜 s (Start p) n = absurd-bool refl n
+step-leaves 𝓜 s (New w caller) n = changed-leaves 𝓜 s (new 𝓜 s w caller .change)
+step-leaves 𝓜 s (Set w c v) n = changed-leaves 𝓜 s (set 𝓜 s w c v .change)
+step-leaves 𝓜 s (Bind w c x) n = changed-leaves 𝓜 s (bind 𝓜 s w c x .change)
+step-leaves 𝓜 s (Export w c to) n = changed-leaves 𝓜 s (export 𝓜 s w c to .change)
+step-leaves 𝓜 s (Indirect w c to) n = changed-leaves 𝓜 s (indirect 𝓜 s w c to .change)
+step-leaves 𝓜 s (Transfer w c to) n = changed-leaves 𝓜 s (transfer 𝓜 s w c to .change)
+step-leaves 𝓜 s (Drop w c) n = changed-leaves 𝓜 s (drop 𝓜 s w c .change)
+step-leaves 𝓜 s (ReadCell w c) n = changed-leaves 𝓜 s (read 𝓜 s w c .change)
+step-leaves 𝓜 s (AskWeight w c) n = changed-leaves 𝓜 s (ask 𝓜 s w c .change)
+step-leaves 𝓜 s (Deliver k) n = changed-leaves 𝓜 s (deliver 𝓜 s k .change)
+step-leaves 𝓜 s Bound n = changed-leaves 𝓜 s (bound 𝓜 s .change)
 
 -- ---- what every call keeps of a cell
 -- an EX that stays one names the entry that it named

@@ -5,9 +5,8 @@ use native.Mathlib.Omega.{arith}
 use native.Mathlib.Numerals.{add-one}
 use native.Mathlib.Nat.{add-suc}
 use mathlib.Core.Path.{_≡_, refl, sym, ap, ap₂, subst, _∙_}
-use mathlib.Core.Bool.{Bool, true, false, _&&_, _||_, not}
+use mathlib.Core.Bool.{true, false, _&&_, _||_, not}
 use mathlib.Core.Logic.{⊎-elim}
-use lib.Dec.{ltb}
 use borrow.Author.Tests.{eq-eqb}
 use Rattle.numbers.specs.Tests.{absurd-bool, or-else}
 use Rattle.tables.specs.declared.Kind.{Kind}
@@ -42,7 +41,7 @@ use Rattle.rules.specs.Step.{step}
 use Rattle.rules.specs.Payers.{isCaller, paysFrom, payer, CellLeadsTo, itself, along}
 use Rattle.rules.specs.Statements.{ComesToAnEnd, KeepsPayers, MovesPayers}
 use Rattle.rules.proofs.Steps.{checked-is, not-false, free-is, var-is}
-use Rattle.rules.proofs.Cells.{Becomes, looks-same, freed, new-var, new-ex, has-value, is-bound, CallerFact, put-stored}
+use Rattle.rules.proofs.Cells.{Becomes, looks-same, freed, new-var, new-ex, has-value, is-bound, CallerFact, put-stored, put-entries, Leaves}
 
 -- ---- one reference after the other
 module _ (𝓜 : Machine) (s : Tables) where
@@ -55,13 +54,6 @@ module _ (𝓜 : Machine) (s : Tables) where
   pays-own (suc n) (Val v caller) q = refl
   pays-own (suc n) (Ref d) q = refl
   pays-own (suc n) (Ex o e w st a) q = nowhere-at (sym q)
-
-  -- so nobody pays for a free cell
-  pub free-pays : (w c : ℕ) → isFree (cell 𝓜 s w c) ≡ true → payer 𝓜 s w c ≡ callerOf Free
-  unfolding payer
-  free-pays w c t =
-      let own = end-self 𝓜 s w c Free (free-is (cell 𝓜 s w c) t) refl in
-      pays-own (liveEntries s) (endKind 𝓜 s w c) (ap namedBy own) ∙ ap callerOf own
 
   -- and else who pays from the end of the entry's cell that is named
   pays-next : (n o e : ℕ) (k : Kind) → namedBy k ≡ At o e → paysFrom 𝓜 s (suc n) k ≡ paysFrom 𝓜 s n (entryEnd 𝓜 s o (entry 𝓜 s o e))
@@ -230,7 +222,9 @@ module _ (𝓜 : Machine) (L : Laws 𝓜) (s : Tables) (I : Invariant 𝓜 s) wh
       k = endKind 𝓜 s w c
 
       none : isFree (cell 𝓜 s w c) ≡ true → isCaller (payer 𝓜 s w c) ≡ not (isFree (cell 𝓜 s w c))
-      none t = ap isCaller (free-pays 𝓜 s w c t) ∙ sym (ap not t)
+      none t =
+          let own = end-self 𝓜 s w c Free (free-is (cell 𝓜 s w c) t) refl in
+          ap isCaller (pays-own 𝓜 s (liveEntries s) k (ap namedBy own) ∙ ap callerOf own) ∙ sym (ap not t)
 
       some : isFree (cell 𝓜 s w c) ≡ false → isCaller (payer 𝓜 s w c) ≡ not (isFree (cell 𝓜 s w c))
       some t = go (end-is 𝓜 s (I .facts) w c t) ∙ sym (ap not t)
@@ -272,8 +266,8 @@ module _ (𝓜 : Machine) (L : Laws 𝓜) (s t : Tables) (I : Invariant 𝓜 s) 
   unfolding enough
   payer-by w c v d q = sym (settled 𝓜 L t J w c enough (omega arith)) ∙ q ∙ settled 𝓜 L s I v d enough (omega arith)
 
-  -- cells that become what they may but are not bound, and live entries that keep their cells
-  module _ (becomes : (w c : ℕ) → Becomes false (cell 𝓜 s w c) (cell 𝓜 t w c))
+  -- cells that become what they may but are not bound, live entries that keep their cells, and cells or entries that are left as they were
+  module _ (becomes : (w c : ℕ) → Becomes false (cell 𝓜 s w c) (cell 𝓜 t w c)) (leaves : Leaves 𝓜 s t)
       (same-cell : (o e : ℕ) → isLive (entry 𝓜 s o e) ≡ true → isLive (entry 𝓜 t o e) ≡ true → cellOf (entry 𝓜 t o e) ≡ cellOf (entry 𝓜 s o e)) where
     -- what the end of a cell that stays, and of an entry's cell that stays, says
     ends-alike : (w c : ℕ) → isFree (cell 𝓜 s w c) ≡ false → isFree (cell 𝓜 t w c) ≡ false → Alike (endKind 𝓜 s w c) (endKind 𝓜 t w c)
@@ -323,9 +317,14 @@ module _ (𝓜 : Machine) (L : Laws 𝓜) (s t : Tables) (I : Invariant 𝓜 s) 
             let nf = live-end 𝓜 s (I .facts) o e live .1 in
             rw same (of-cell o (cellOf (entry 𝓜 s o e)) nf (rw same at (live-end 𝓜 t (J .facts) o e live′ .1)))
 
-        of-reference : (o e w c : ℕ) → isLive (entry 𝓜 s o e) ≡ true → exNames o e (cell 𝓜 t w c) ≡ true
-            → payer 𝓜 t w c ≡ payer 𝓜 s o (cellOf (entry 𝓜 s o e))
-        of-reference o e w c live names = ex-pays 𝓜 L t J o e w c names ∙ of-entry o e live (names-live 𝓜 t (J .facts) w c o e names)
+        of-reference : (o e w c : ℕ) → exNames o e (cell 𝓜 t w c) ≡ true
+            → (isLive (entry 𝓜 s o e) ≡ true) × (payer 𝓜 t w c ≡ payer 𝓜 s o (cellOf (entry 𝓜 s o e)))
+        of-reference o e w c names =
+            let live′ = names-live 𝓜 t (J .facts) w c o e names in
+            let live =
+            ⊎-elim (λ same. names-live 𝓜 s (I .facts) w c o e (sym (ap (exNames o e) (same w c)) ∙ names))
+            (λ same. sym (ap isLive (same o e)) ∙ live′) leaves in
+            (live, ex-pays 𝓜 L t J o e w c names ∙ of-entry o e live live′)
 
 -- ---- a bind
 -- the rank does not rise along a chain
@@ -340,15 +339,6 @@ ahead-falls 𝓜 s r R (suc n) o e a b q = go (follow 𝓜 s (At o e)) refl (ahe
     go : (p : Place) → follow 𝓜 s (At o e) ≡ p → ((x y a b : ℕ) → ahead 𝓜 s n (At x y) ≡ At a b → r a b ≤ r x y) → r a b ≤ r o e
     go Nowhere i rec = nowhere-at (sym (ahead-nowhere 𝓜 s n) ∙ sym (ap (ahead 𝓜 s n) i) ∙ q)
     go (At x y) i rec = omega (arith, rec x y a b (sym (ap (ahead 𝓜 s n) i) ∙ q), R .falls o e x y i)
-
--- a cell store leaves the entries
-put-entries : (𝓜 : Machine) (s : Tables) (w c : ℕ) (k : Kind) (a b : ℕ) → entry 𝓜 (putCell 𝓜 s w c k) a b ≡ entry 𝓜 s a b
-unfolding entry putCell
-put-entries 𝓜 s w c k a b = go (ltb w (𝓜 .workers) && ltb c (𝓜 .cells)) refl
-  where
-    go : (in-range : Bool) → (ltb w (𝓜 .workers) && ltb c (𝓜 .cells)) ≡ in-range → entry 𝓜 (putCell 𝓜 s w c k) a b ≡ entry 𝓜 s a b
-    go true t = rw t refl
-    go false t = rw t refl
 
 -- the VAR c of worker w becomes a REF to the end of x, an EX, and a safe one where c is exported
 module _ (𝓜 : Machine) (L : Laws 𝓜) (s : Tables) (I : Invariant 𝓜 s) (w c x caller : ℕ) (var : cell 𝓜 s w c ≡ Var caller) (ex : isEx (endKind 𝓜 s w x) ≡ true)

@@ -33,7 +33,7 @@ use Rattle.states.specs.Chains.{ahead, EndsIn}
 use Rattle.rules.specs.Refusals.{ready, boundRefusals}
 use Rattle.rules.specs.Calls.{start, bound, B}
 use Rattle.rules.specs.Deliver.{deliverHome, deliverAway, deliverRelease, deliverRead, deliverAnswer, deliverSupply, deliverAsk, deliverMessage, deliver}
-use Rattle.rules.specs.Step.{isStart, isBind, step, run, delivers, drained, successes, Reached, begun, after}
+use Rattle.rules.specs.Step.{isStart, binds, step, run, delivers, drained, successes, Reached, begun, after}
 use Rattle.states.specs.Machines.{Laws}
 use Rattle.states.specs.Facts.{EntryFact, Facts, ReadAhead, Reads, KnownFact}
 use Rattle.states.proofs.Derived.{LivePlace, names-live, named-place}
@@ -45,7 +45,7 @@ use Rattle.rules.specs.Statements.{noStart, CallsKeepSound, FreedAtNothi
 use Rattle.rules.proofs.Measure.{measure, measure-bound, StatusOn, KindOn, ExOn, Arrived, arrived}
 use Rattle.states.proofs.Stays.{facts-made, invariant-made}
 use Rattle.rules.proofs.Context.{message-live, context-made, reference-made}
-use Rattle.rules.proofs.Cells.{Becomes, step-becomes, keeps-entry, keeps-caller, CallerFact, keeps-caller-fact}
+use Rattle.rules.proofs.Cells.{Becomes, step-becomes, step-leaves, keeps-entry, keeps-caller, CallerFact, keeps-caller-fact}
 use Rattle.rules.proofs.Steps.{makes-checked, not-false}
 use Rattle.rules.proofs.Local.{new-makes, set-makes, bind-makes, transfer-makes, drop-makes}
 use Rattle.rules.proofs.Send.{export-makes, indirect-makes, read-makes, ask-makes}
@@ -101,7 +101,8 @@ module _ (𝓜 : Machine) (L : Laws 𝓜) where
       invariant-made 𝓜 t (step 𝓜 t q .after) I (step-makes t (I .facts) (I .reads) q n)
 
   -- and every cell becomes what it may
-  reached-becomes : (s : Tables) → Reached 𝓜 s → (q : Call) → isStart q ≡ false → (w c : ℕ) → Becomes (isBind q) (cell 𝓜 s w c) (cell 𝓜 (step 𝓜 s q .after) w c)
+  reached-becomes : (s : Tables) → Reached 𝓜 s → (q : Call) → isStart q ≡ false → (w c : ℕ)
+      → Becomes (binds 𝓜 s q) (cell 𝓜 s w c) (cell 𝓜 (step 𝓜 s q .after) w c)
   reached-becomes s r q n = step-becomes 𝓜 L s (reached-invariant s r .facts .sized) q n
 
   callers-kept : CallersKept 𝓜
@@ -336,7 +337,7 @@ module _ (𝓜 : Machine) (L : Laws 𝓜) where
   only-bind-moves-payers s r q n not-bind =
       let t = step 𝓜 s q .after in
       keeps-payers 𝓜 L s t (reached-invariant s r) (reached-invariant t (after r q n))
-      (λ w c. subst (λ (b : Bool). Becomes b (cell 𝓜 s w c) (cell 𝓜 t w c)) not-bind (reached-becomes s r q n w c))
+      (λ w c. subst (λ (b : Bool). Becomes b (cell 𝓜 s w c) (cell 𝓜 t w c)) not-bind (reached-becomes s r q n w c)) (step-leaves 𝓜 s q n)
       (λ o e live live′. keeps-context s r q n o e live live′ .same-cell)
 
   -- ---- the whole

@@ -22,7 +22,8 @@ module _ (𝓜 : Machine) (s : Tables) where
   paysFrom (suc n) k = onEx (callerOf k) (λ o e w st a. paysFrom n (entryEnd 𝓜 s o (entry 𝓜 s o e))) k
 
   -- Who pays for the cell c of worker w. "A charge whose worker or cell number is out of range, or whose cell is free, is unplaced", since what is
-  -- out of range reads free; "so is one whose chain has not reached a VAR or VAL after as many references as there are live entries".
+  -- out of range reads free, and of workers P and up everything is free in a sound state; "so is one whose chain has not reached a VAR or VAL after as
+  -- many references as there are live entries".
   unfoldable pub payer : ℕ → ℕ → ℕ
   payer w c = paysFrom (liveEntries s) (endKind 𝓜 s w c)
 

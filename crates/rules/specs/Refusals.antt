@@ -105,7 +105,7 @@ noCaller caller = NoCaller when ltb 255 caller
 abbrev pub tooManyCharges : ℕ → Check
 tooManyCharges n = TooManyCharges when ltb 65535 n
 
--- ---- the lines of each call, over what it has looked up: what is wrong with its arguments, 2 to 6 and 16, and then with the moment, 7 to 15
+-- ---- the lines of each call, over what it has looked up: what is wrong with its arguments, 2 to 6, 16 and 17, and then with the moment, 7 to 15
 
 abbrev pub workerLines : Bool → ℕ → ℕ → List Check
 workerLines is-sound p w = notSound is-sound ∷ noWorker p w ∷ []
@@ -168,7 +168,7 @@ boundLines is-sound = (notSound is-sound ∷ []) ++ []
 
 -- the report's, of n charges: "2; then 17"
 abbrev pub reportLines : Bool → ℕ → List Check
-reportLines is-sound n = notSound is-sound ∷ tooManyCharges n ∷ []
+reportLines is-sound n = (notSound is-sound ∷ tooManyCharges n ∷ []) ++ []
 
 -- ---- what is looked up
 
@@ -224,3 +224,6 @@ module _ (𝓜 : Machine) (s : Tables) where
 
   abbrev pub boundRefusals : List Check
   boundRefusals = boundLines (sound 𝓜 s)
+
+  abbrev pub reportRefusals : ℕ → List Check
+  reportRefusals n = reportLines (sound 𝓜 s) n

@@ -27,7 +27,7 @@ use Rattle.states.specs.Chains.{entryEnd, ahead, EndsIn, LeadsTo}
 use Rattle.rules.specs.Refusals.{ready}
 use Rattle.rules.specs.Calls.{start, B}
 use Rattle.states.specs.Machines.{Sized}
-use Rattle.rules.specs.Step.{isStart, isBind, step, run, delivers, drained, successes, Reached}
+use Rattle.rules.specs.Step.{isStart, binds, step, run, delivers, drained, successes, Reached}
 use Rattle.rules.specs.Payers.{isCaller, payer, CellLeadsTo}
 
 -- a list of calls with no start in it
@@ -203,20 +203,21 @@ module _ (𝓜 : Machine) where
   abbrev pub ContextPays : Type 0
   ContextPays = (s : Tables) → Reached 𝓜 s → (w c v d : ℕ) → CellLeadsTo 𝓜 s w c v d → payer 𝓜 s w c ≡ callerOf (cell 𝓜 s v d)
 
-  -- No call but bind changes who pays for a cell that stays, nor for an entry that stays, which a message may name; and an EX that names an entry
-  -- after the call is paid for by whoever paid for that entry's cell before. So time is never booked through a number that was given out again.
+  -- No call but bind changes who pays for a cell that stays, nor for an entry that stays, which a message may name; and whatever entry an EX names
+  -- after the call was live before it, and whoever paid for that entry's cell then pays for the EX. So time is never booked to a caller through a number
+  -- that was given out again. A bind that is refused changes nothing either.
   pub record KeepsPayers (s s′ : Tables) : Type 0 where
     pub of-cell : (w c : ℕ) → isFree (cell 𝓜 s w c) ≡ false → isFree (cell 𝓜 s′ w c) ≡ false → payer 𝓜 s′ w c ≡ payer 𝓜 s w c
     pub of-entry : (o e : ℕ) → isLive (entry 𝓜 s o e) ≡ true → isLive (entry 𝓜 s′ o e) ≡ true
         → payer 𝓜 s′ o (cellOf (entry 𝓜 s′ o e)) ≡ payer 𝓜 s o (cellOf (entry 𝓜 s o e))
-    pub of-reference : (o e w c : ℕ) → isLive (entry 𝓜 s o e) ≡ true → exNames o e (cell 𝓜 s′ w c) ≡ true
-        → payer 𝓜 s′ w c ≡ payer 𝓜 s o (cellOf (entry 𝓜 s o e))
+    pub of-reference : (o e w c : ℕ) → exNames o e (cell 𝓜 s′ w c) ≡ true
+        → (isLive (entry 𝓜 s o e) ≡ true) × (payer 𝓜 s′ w c ≡ payer 𝓜 s o (cellOf (entry 𝓜 s o e)))
 
   abbrev pub OnlyBindMovesPayers : Type 0
   OnlyBindMovesPayers =
-      (s : Tables) → Reached 𝓜 s → (q : Call) → isStart q ≡ false → isBind q ≡ false → KeepsPayers s (step 𝓜 s q .after)
+      (s : Tables) → Reached 𝓜 s → (q : Call) → isStart q ≡ false → binds 𝓜 s q ≡ false → KeepsPayers s (step 𝓜 s q .after)
 
-  -- A bind moves the payer of its cell, and of all that lead to it, to the payer of the other; of no other cell.
+  -- A bind that is done moves the payer of its cell, and of all that lead to it, to the payer of the other; of no other cell.
   pub record MovesPayers (s s′ : Tables) (w c x : ℕ) : Type 0 where
     pub of-those : (v d : ℕ) → CellLeadsTo 𝓜 s v d w c → payer 𝓜 s′ v d ≡ payer 𝓜 s w x
     pub of-no-other : (v d : ℕ) → (CellLeadsTo 𝓜 s v d w c → ⊥) → payer 𝓜 s′ v d ≡ payer 𝓜 s v d

@@ -1,6 +1,6 @@
 -- One call of the twelve, sequences of calls, and deliveries in a given order. Assumes nothing.
 use Prim.Native.Nat.{ℕ, _+_}
-use mathlib.Core.Bool.{Bool, true, false}
+use mathlib.Core.Bool.{Bool, true, false, _&&_}
 use mathlib.Core.List.{List, [], _∷_}
 use mathlib.Core.Path.{_≡_}
 use Rattle.numbers.specs.Below.{bit}
@@ -71,6 +71,10 @@ isBind (ReadCell w c) = false
 isBind (AskWeight w c) = false
 isBind (Deliver k) = false
 isBind Bound = false
+
+-- a bind that is not refused
+abbrev pub binds : Machine → Tables → Call → Bool
+binds 𝓜 s q = isBind q && succeeds (step 𝓜 s q .outcome)
 
 -- the states reached from an accepted start by calls with no start among them, refused ones included
 pub data Reached (𝓜 : Machine) : Tables → Type 0 where

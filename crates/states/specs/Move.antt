@@ -80,6 +80,7 @@ pub record Keeps (𝓜 : Machine) (s : Tables) (h : Move) : Type 0 where
   -- a busy cell stays what others see of it, but for an exported VAR
   pub busy-kept : busy 𝓜 s (h .w) (h .c) ≡ true → isVar (h .k₀) ≡ false → shown (h .k) ≡ shown (h .k₀)
   pub var-kept : exported 𝓜 s (h .w) (h .c) ≡ true → isVar (h .k₀) ≡ true → VarBecomes 𝓜 s (h .w) (h .k)
+  -- a Reference stays in its slot, or goes where it should
   pub reference-kept : (h .m ≡ h .m₀) ⊎ ReferenceGoes (h .w) (h .k) (h .m₀)
   -- a live entry that stays live keeps its cell and its taint
   pub entry-kept : isLive (h .x₀) ≡ true → isLive (h .x) ≡ true → (cellOf (h .x) ≡ cellOf (h .x₀)) × (isTainted (h .x) ≡ isTainted (h .x₀))

@@ -68,7 +68,7 @@ isVal k = onVal false (λ n caller. true) k
 abbrev pub hasCaller : ℕ → Kind → Bool
 hasCaller who k = onVal (onVar false (λ caller. eqb caller who) k) (λ n caller. eqb caller who) k
 
--- the caller of a VAR or a VAL; past the last, 255, of any other cell
+-- the caller of a VAR or a VAL; of any other cell 256, which is past the last
 abbrev pub callerOf : Kind → ℕ
 callerOf k = onVal (onVar 256 (λ caller. caller) k) (λ n caller. caller) k
 

@@ -152,7 +152,7 @@ pub enum Call {
     Bound,
 }
 
-// Why a call is refused, in the order of the refusal numbers.
+// Why a call or a report is refused, in the order of the refusal numbers.
 pub enum Refusal {
     WorkerCount,
     NotSound,

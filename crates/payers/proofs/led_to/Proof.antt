@@ -7,4 +7,4 @@ pub led-to-spec : {M : Type 1} → statement M
 led-to-spec =
     tie.close
     (tie.spec (λ c. search needs) (λ c. search needs) _ (λ c. search needs)
-    (λ c. rw (c .before .before .x .given .1) (c .cell-number .ensures)))
+    (λ c. rw (c .before .before .x .given .1) (c .table-place .ensures)))

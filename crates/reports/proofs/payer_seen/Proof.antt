@@ -1,6 +1,6 @@
 -- `reports::payer_seen` meets its contract: the two guards. Assumes nothing.
 use borrow.Author.Tests.{lt-ltb, le-ltb}
-use Rattle.reports.specs.Booking.{payerSeen}
+use Rattle.reports.specs.Charging.{payerSeen}
 use Rattle.reports.proofs.payer_seen.Statement.{statement}
 use Rattle.reports.proofs.payer_seen.Tie as tie
 

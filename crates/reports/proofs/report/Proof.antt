@@ -1,5 +1,5 @@
 -- `reports::report` meets its contract: a walk of its MIR, by hand. The shared borrow of the slice is looked into once, before the loop, and shut
--- after it. In a turn one charge is taken out of the row, copied and put back, and `booked` is called on the copy.
+-- after it. In a turn one charge is taken out of the row, copied and put back, and `charged` is called on the copy.
 -- All that the proof knows of the functions that it calls is that each meets its contract (`Calls.antt`'s `by-value`).
 --     Turn, Nearer         where a turn starts, and the order of the turns
 --     more, ends, turns    the turn that books a charge, the one that leaves the loop, and either.        walk     the MIR, up to the loop
@@ -53,19 +53,19 @@ use Rattle.tables.specs.Machine.{eight, tables as tables-of}
 use Rattle.tables.specs.declared.State.{State}
 use Rattle.tables.proofs.State as St
 use Rattle.rules.specs.Answers.{succeeds}
-use Rattle.reports.specs.Report.{accepted, reported}
-use Rattle.reports.specs.Booking.{openedOf, bookedOne, bookedAll, closedOf, Within}
+use Rattle.reports.specs.Report.{taken, reported}
+use Rattle.reports.specs.Charging.{openedOf, chargedOne, chargedAll, finishedOf, Within}
 use Rattle.reports.specs.declared.Charge.{Charge}
 use Rattle.reports.specs.declared.Books.{Books}
-use Rattle.reports.proofs.Laws.{within-opened, within-booked, booked-next, booked-end, accepted-length, accepted-at, accepted-few, report-is}
-use Rattle.reports.proofs.Calls.{local, by-value}
+use Rattle.reports.proofs.Laws.{within-opened, within-charged, charged-next, charged-end, taken-length, taken-at, taken-few, report-is}
+use Rattle.reports.proofs.ByValue.{local, by-value}
 use Rattle.reports.proofs.Charge as Ch
 use Rattle.reports.proofs.Books as Bo
 use Rattle.reports.proofs.CostReport as Co
 use Rattle.reports.proofs.opened as opens
-use Rattle.reports.proofs.accepted as accepts
-use Rattle.reports.proofs.booked as books
-use Rattle.reports.proofs.closed as closes
+use Rattle.reports.proofs.taken as accepts
+use Rattle.reports.proofs.charged as books
+use Rattle.reports.proofs.finished as closes
 use Rattle.reports.proofs.report as this
 
 -- the parameters: nothing is had of either at exit
@@ -98,9 +98,9 @@ module _ {M : Type 1} (𝓤 : URA M) (H : Heap 𝓤) (A : Atoms 𝓤) (at-mem : 
   -- that a table has what the functions called meet
   record Known (𝓣 : Tables 𝓤 H) : Type 2 where
     of-opened : Triple 𝓤 (𝓣 .C opens.Symbol.name) (tripleOf 𝓤 H A opens.signature (opens.spec 𝓤 H A at-mem run))
-    of-accepted : Triple 𝓤 (𝓣 .C accepts.Symbol.name) (tripleOf 𝓤 H A accepts.signature (accepts.spec 𝓤 H A at-mem run))
-    of-booked : Triple 𝓤 (𝓣 .C books.Symbol.name) (tripleOf 𝓤 H A books.signature (books.spec 𝓤 H A at-mem run))
-    of-closed : Triple 𝓤 (𝓣 .C closes.Symbol.name) (tripleOf 𝓤 H A closes.signature (closes.spec 𝓤 H A at-mem run))
+    of-taken : Triple 𝓤 (𝓣 .C accepts.Symbol.name) (tripleOf 𝓤 H A accepts.signature (accepts.spec 𝓤 H A at-mem run))
+    of-charged : Triple 𝓤 (𝓣 .C books.Symbol.name) (tripleOf 𝓤 H A books.signature (books.spec 𝓤 H A at-mem run))
+    of-finished : Triple 𝓤 (𝓣 .C closes.Symbol.name) (tripleOf 𝓤 H A closes.signature (closes.spec 𝓤 H A at-mem run))
 
   abbrev clauses : Clauses 𝓤 this.ended
   clauses = this.clauses 𝓤 H A at-mem run
@@ -116,15 +116,15 @@ module _ {M : Type 1} (𝓤 : URA M) (H : Heap 𝓤) (A : Atoms 𝓤) (at-mem : 
     abbrev n : ℕ
     n = length ys
 
-    -- the charges that are booked, and the books at first
+    -- the charges that are charged, and the books at first
     abbrev zs : List Charge
-    zs = accepted (reported eight (tables-of s) n) ys
+    zs = taken (reported eight (tables-of s) n) ys
 
     abbrev b₀ : Books
     b₀ = openedOf eight (tables-of s) n
 
     few : length zs ≤ 65535
-    few = accepted-few (tables-of s) ys
+    few = taken-few (tables-of s) ys
 
     -- the parameters
     abbrev x : RefT (List Charge)
@@ -162,7 +162,7 @@ module _ {M : Type 1} (𝓤 : URA M) (H : Heap 𝓤) (A : Atoms 𝓤) (at-mem : 
       value : Val
       is : Is Bo.the-row now (value ∷ [])
       near : Within now at
-      so-far : bookedAll eight now (dropL at zs) ≡ bookedAll eight b₀ zs
+      so-far : chargedAll eight now (dropL at zs) ≡ chargedAll eight b₀ zs
 
     abbrev Nearer : Turn → Turn → Type 0
     Nearer j i = length zs - j .at < length zs - i .at
@@ -177,7 +177,7 @@ module _ {M : Type 1} (𝓤 : URA M) (H : Heap 𝓤) (A : Atoms 𝓤) (at-mem : 
       value = u;
       is = is;
       near = subst (λ (t : Books). Within t 0) (sym so) (within-opened eight (tables-of s) n);
-      so-far = ap (λ (t : Books). bookedAll eight t zs) so;
+      so-far = ap (λ (t : Books). chargedAll eight t zs) so;
     }
 
     -- ---- the loop
@@ -205,7 +205,7 @@ module _ {M : Type 1} (𝓤 : URA M) (H : Heap 𝓤) (A : Atoms 𝓤) (at-mem : 
       more i e =
           let l : i .at < length zs = ltb-true _ _ e in
           let c : Charge = getD ys (i .at) zero-charge in
-          let there = accepted-at (reported eight (tables-of s) n) ys (i .at) zero-charge l in
+          let there = taken-at (reported eight (tables-of s) n) ys (i .at) zero-charge l in
           let by-8 : i .at * 8 < 2 ^ 64 = omega (arith, few, l) in
           let fits : i .at + 1 < 2 ^ 64 = omega (arith, few, l) in
           assigns ! (bin ! (local ! 12 refl) (local ! 14 refl) tt) (from ! (stop !)) (init ! 8 refl (tt, tt)) $
@@ -220,9 +220,9 @@ module _ {M : Type 1} (𝓤 : URA M) (H : Heap 𝓤) (A : Atoms 𝓤) (at-mem : 
           (init ! 4 refl (LL.lawful Ch.the-type Ch.Laws.the-laws 𝓤 H A W .typed c _ g .0)) $
           elem-back ! Ch.the-row q′ ys (i .at) zero-charge (charge-vals c) b o (there .0) $
           by-value 𝓤 H A books.ended (books.clauses 𝓤 H A at-mem run) ((tt, tt, tt, (i .now, (c, tt)), (i .value ∷ [], (charge-vals c, tt))), tt) W fm
-          (known .of-booked) (id⊢ 𝓤 _) (makes-books, (makes-charge, tt)) (i .is, (g, tt))
+          (known .of-charged) (id⊢ 𝓤 _) (makes-books, (makes-charge, tt)) (i .is, (g, tt))
           (factI 𝓤 _ _ (omega (arith, few, l, i .near .0), i .near .1, i .near .2))
-          (and-then ! (local ! 16 refl) (and-then ! (local ! 2 refl) (no-more !))) (λ r. r ≡ bookedOne eight (i .now) c) (λ r e. refl) (λ u r is so.
+          (and-then ! (local ! 16 refl) (and-then ! (local ! 2 refl) (no-more !))) (λ r. r ≡ chargedOne eight (i .now) c) (λ r e. refl) (λ u r is so.
           land ! (from ! (stop !)) (store ! 16 refl (LL.lawful Bo.the-type Bo.Laws.the-laws 𝓤 H A W .typed r _ is .0)) $
           assigns-last ! (bin ! (local ! 12 refl) (lit ! tt) (record { fits = fits })) (from ! (stop !)) (store ! 12 refl (tt, record { fits = fits })) $
           forget ! 2 refl $ forget ! 4 refl $ forget ! 6 refl $ forget ! 8 refl $ again ! Nearer At i (record {
@@ -231,9 +231,9 @@ module _ {M : Type 1} (𝓤 : URA M) (H : Heap 𝓤) (A : Atoms 𝓤) (at-mem : 
             value = u;
             is = is;
             near = subst (λ (t : Books). Within t (i .at + 1)) (sym so)
-                (within-booked eight (i .now) c (i .at) (omega (arith, few, l)) (i .near) (record { sfits = g .1 .1 .1 .1 .0 .1 }));
-            so-far = ap (λ (t : Books). bookedAll eight t (dropL (i .at + 1) zs)) (so ∙ ap (bookedOne eight (i .now)) (there .1))
-                ∙ booked-next eight (i .now) zs (i .at) zero-charge l ∙ i .so-far;
+                (within-charged eight (i .now) c (i .at) (omega (arith, few, l)) (i .near) (record { sfits = g .1 .1 .1 .1 .0 .1 }));
+            so-far = ap (λ (t : Books). chargedAll eight t (dropL (i .at + 1) zs)) (so ∙ ap (chargedOne eight (i .now)) (there .1))
+                ∙ charged-next eight (i .now) zs (i .at) zero-charge l ∙ i .so-far;
           }) (omega (arith, l))))
 
       -- the turn that leaves the loop, and the rest of the body
@@ -244,8 +244,8 @@ module _ {M : Type 1} (𝓤 : URA M) (H : Heap 𝓤) (A : Atoms 𝓤) (at-mem : 
           rewrite ! 8 (λ (t : Bool). ‵ (fat fullShare tyBool l₇ 0 (vbool t))) e refl $ leaves-loop ! (local ! 8 refl) $
           exec ! C Λ En this.Code.Mir.t-7 (atRet En Post) $
           by-value 𝓤 H A closes.ended (closes.clauses 𝓤 H A at-mem run) ((tt, tt, tt, (i .now, tt), (i .value ∷ [], tt)), tt) W fm
-          (known .of-closed) (id⊢ 𝓤 _) (makes-books, tt) (i .is, tt) (id⊢ 𝓤 _)
-          (and-then ! (local ! 16 refl) (no-more !)) (λ r. r ≡ closedOf (i .now)) (λ r e. refl) (λ u r is so.
+          (known .of-finished) (id⊢ 𝓤 _) (makes-books, tt) (i .is, tt) (id⊢ 𝓤 _)
+          (and-then ! (local ! 16 refl) (no-more !)) (λ r. r ≡ finishedOf (i .now)) (λ r e. refl) (λ u r is so.
           land ! (from ! (stop !)) (init ! 22 refl (LL.lawful Co.the-type Co.Laws.the-laws 𝓤 H A W .typed r _ is .0)) $ shuts-slice ! tt Ch.the-row q′ ys b o $
           -- [the slice's token; _10; …; _0; …]
           returns ! (look ! 21 refl) $ forget ! 7 refl $ forget ! 9 refl $ forget ! 11 refl $ forget ! 13 refl $ forget ! 15 refl $ forget ! 17 refl $
@@ -253,7 +253,7 @@ module _ {M : Type 1} (𝓤 : URA M) (H : Heap 𝓤) (A : Atoms 𝓤) (at-mem : 
           move ! (21 ∷ 22 ∷ 19 ∷ 20 ∷ 17 ∷ 18 ∷ 15 ∷ 16 ∷ 13 ∷ 14 ∷ 11 ∷ 12 ∷ 9 ∷ 10 ∷ 7 ∷ 8 ∷ 5 ∷ 6 ∷ 3 ∷ 4 ∷ 1 ∷ 2 ∷ []) $
           free1 ! $ free1 ! $ free1 ! $ free1 ! $ free1 ! $ free1 ! $ free1 ! $ free1 ! $ free1 ! $ free1 ! $ free1 ! $ free0 ! $
           suffices ! _ (ends-at 𝓤 H A this.ended stayed clauses W bound u r (tt, (tt, tt)) (tt, (tt, tt))) $
-          says ! (so ∙ ap closedOf (sym (booked-end eight (i .now) zs (i .at) (ltb-false _ _ e)) ∙ i .so-far) ∙ report-is (tables-of s) ys) $
+          says ! (so ∙ ap finishedOf (sym (charged-end eight (i .now) zs (i .at) (ltb-false _ _ e)) ∙ i .so-far) ∙ report-is (tables-of s) ys) $
           nothing ! $ move ! (1 ∷ []) $ group ! 2 $ frame ! $ nothing ! $ nothing ! $ nothing ! $ fjoin3 ! $ frame ! $
           owned ! Co.the-row (Is Co.the-row) (LL.makes Co.the-type Co.Laws.the-plain 𝓤 H A) r _ is $ done !)
 
@@ -288,12 +288,12 @@ module _ {M : Type 1} (𝓤 : URA M) (H : Heap 𝓤) (A : Atoms 𝓤) (at-mem : 
         assigns ! (of-opd ! (load ! (from ! (fld ! refl (stop !))) (look-in ! 16 (sub ! 1 refl (whole !))))) (from ! (stop !))
         (store ! 8 refl (tt, record { fits = room .0 })) $
         by-value 𝓤 H A accepts.ended (accepts.clauses 𝓤 H A at-mem run) ((tt, tt, tt, (r, (n, tt)), (u ∷ [], (vint w64 n ∷ [], tt))), tt) W fm
-        (known .of-accepted) (id⊢ 𝓤 _) (makes-books, (makes-word, tt)) (is, ((refl, room .0), tt)) (id⊢ 𝓤 _)
+        (known .of-taken) (id⊢ 𝓤 _) (makes-books, (makes-word, tt)) (is, ((refl, room .0), tt)) (id⊢ 𝓤 _)
         (and-then ! (local ! 14 refl) (and-then ! (local ! 8 refl) (no-more !))) (λ m. m ≡ cond (succeeds (r .outcome)) n 0) (λ m e. refl) (λ w m is-m so′.
         land ! (from ! (stop !)) (init ! 12 refl (uint-lawful 𝓤 H A W w64 .typed m _ is-m .0)) $
         rewrite ! 12 (λ (z : Val). ‵ (fat fullShare word l₄ 0 z)) (ap only (is-m .0)) refl $
         rewrite ! 12 (λ (k : ℕ). ‵ (fat fullShare word l₄ 0 (vint w64 k)))
-        (so′ ∙ ap (λ (t : Books). cond (succeeds (t .outcome)) n 0) so ∙ accepted-length (reported eight (tables-of s) n) ys) refl $
+        (so′ ∙ ap (λ (t : Books). cond (succeeds (t .outcome)) n 0) so ∙ taken-length (reported eight (tables-of s) n) ys) refl $
         assigns ! (of-opd ! (lit ! tt)) (from ! (stop !)) (init ! 10 refl (tt, record { fits = lit< tt })) $
         -- the slice is looked into: [the state; the slice; true; _10; …], then [its borrow; its token; true; the state; true; _10; …]
         move ! (23 ∷ []) $ split3 ! $ move ! (1 ∷ []) $ fsplit ! $ drop ! $ fsplit ! $ drop ! $ move ! (25 ∷ []) $ split ! $ move ! (2 ∷ 0 ∷ []) $
@@ -316,7 +316,7 @@ report-spec 𝓤 H 𝓜 𝓖 𝓡 =
     entered 𝓤 H _ _ _ this.Key.name _ (this.Code.unfolded 𝓤 H 𝓜 𝓡)
     (this-meets 𝓤 H (𝓖 .A) (𝓜 .mem) (𝓡 .run) (givenOf 𝓤 H 𝓜 𝓖) (tablesOf 𝓤 H 𝓜 (tables 𝓤 H 𝓜 𝓡 this.Code.env)) (record {
       of-opened = cited 𝓤 H _ 𝓜 𝓡 this.Code.env opens.Symbol.name opens.Symbol.routine this.Code.calls-reports·opened (opens.Met.met 𝓤 H 𝓜 𝓖 𝓡);
-      of-accepted = cited 𝓤 H _ 𝓜 𝓡 this.Code.env accepts.Symbol.name accepts.Symbol.routine this.Code.calls-reports·accepted (accepts.Met.met 𝓤 H 𝓜 𝓖 𝓡);
-      of-booked = cited 𝓤 H _ 𝓜 𝓡 this.Code.env books.Symbol.name books.Symbol.routine this.Code.calls-reports·booked (books.Met.met 𝓤 H 𝓜 𝓖 𝓡);
-      of-closed = cited 𝓤 H _ 𝓜 𝓡 this.Code.env closes.Symbol.name closes.Symbol.routine this.Code.calls-reports·closed (closes.Met.met 𝓤 H 𝓜 𝓖 𝓡);
+      of-taken = cited 𝓤 H _ 𝓜 𝓡 this.Code.env accepts.Symbol.name accepts.Symbol.routine this.Code.calls-reports·taken (accepts.Met.met 𝓤 H 𝓜 𝓖 𝓡);
+      of-charged = cited 𝓤 H _ 𝓜 𝓡 this.Code.env books.Symbol.name books.Symbol.routine this.Code.calls-reports·charged (books.Met.met 𝓤 H 𝓜 𝓖 𝓡);
+      of-finished = cited 𝓤 H _ 𝓜 𝓡 this.Code.env closes.Symbol.name closes.Symbol.routine this.Code.calls-reports·finished (closes.Met.met 𝓤 H 𝓜 𝓖 𝓡);
     }))

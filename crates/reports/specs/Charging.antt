@@ -14,7 +14,7 @@ use Rattle.reports.specs.declared.Books.{Books}
 use Rattle.reports.specs.declared.CostReport.{CostReport}
 use Rattle.reports.specs.Report.{reported}
 
--- nothing booked yet, of n charges
+-- of n charges, before the first
 abbrev pub openedOf : Machine → Tables → ℕ → Books
 openedOf 𝓜 s n =
     record { outcome = reported 𝓜 s n; payers = payersOf 𝓜 s; totals = replicate 256 (pos 0); unplaced = pos 0; placed = 0; missed = 0 }
@@ -36,17 +36,17 @@ module _ (𝓜 : Machine) where
   abbrev pub payerIn : List ℕ → Charge → ℕ
   payerIn payers c = payerSeen (c .worker) (c .cell) (getD payers (cellIndex 𝓜 (c .worker) (c .cell)) 0)
 
-  -- a charge booked, and all of a list, one after the other
-  unfoldable pub bookedOne : Books → Charge → Books
-  bookedOne b c = gained (isCaller (payerIn (b .payers) c)) (payerIn (b .payers) c) (c .amount) b
+  -- one charge more, and all of a list, one after the other
+  unfoldable pub chargedOne : Books → Charge → Books
+  chargedOne b c = gained (isCaller (payerIn (b .payers) c)) (payerIn (b .payers) c) (c .amount) b
 
-  unfoldable pub bookedAll : Books → List Charge → Books
-  bookedAll b [] = b
-  bookedAll b (c ∷ cs) = bookedAll (bookedOne b c) cs
+  unfoldable pub chargedAll : Books → List Charge → Books
+  chargedAll b [] = b
+  chargedAll b (c ∷ cs) = chargedAll (chargedOne b c) cs
 
 -- what the books have come to
-abbrev pub closedOf : Books → CostReport
-closedOf b = record { outcome = b .outcome; totals = b .totals; unplaced = b .unplaced; placed = b .placed; missed = b .missed }
+abbrev pub finishedOf : Books → CostReport
+finishedOf b = record { outcome = b .outcome; totals = b .totals; unplaced = b .unplaced; placed = b .placed; missed = b .missed }
 
 -- how many charges are in the books
 abbrev pub count : Books → ℕ

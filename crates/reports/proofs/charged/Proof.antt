@@ -1,11 +1,11 @@
--- `reports::booked` meets its contract: one total gains the amount, and fits. Assumes nothing.
+-- `reports::charged` meets its contract: one total gains the amount, and fits. Assumes nothing.
 use borrow.Author.Needs.{needs}
 use Rattle.reports.proofs.Laws.{asks-placed, asks-unplaced, books-placed, books-unplaced}
-use Rattle.reports.proofs.booked.Statement.{statement}
-use Rattle.reports.proofs.booked.Tie as tie
+use Rattle.reports.proofs.charged.Statement.{statement}
+use Rattle.reports.proofs.charged.Tie as tie
 
-pub booked-spec : {M : Type 1} → statement M
-booked-spec =
+pub charged-spec : {M : Type 1} → statement M
+charged-spec =
     tie.close
     (tie.spec _ (λ c. search needs) (λ c. search needs) _ (λ c. search needs) (λ c. search needs) (λ c. search needs)
     (λ c κs.
