@@ -55,5 +55,6 @@ module _ (𝓜 : Machine) (s : Tables) where
   abbrev pub reported : ℕ → Outcome
   reported n = checked (reportRefusals 𝓜 s n) (answered (Done 0)) .outcome
 
+  -- the report of a list of charges in this state
   unfoldable pub report : List Charge → CostReport
   report cs = totalled (reported (length cs)) (taken (reported (length cs)) cs)
