@@ -1,8 +1,8 @@
 -- `reports::report` meets its contract: a walk of its MIR, by hand. The shared borrow of the slice is looked into once, before the loop, and shut
 -- after it. In a turn one charge is taken out of the row, copied and put back, and `charged` is called on the copy.
--- All that the proof knows of the functions that it calls is that each meets its contract (`Calls.antt`'s `by-value`).
+-- All that the proof knows of the functions that it calls is that each meets its contract (`ByValue.antt`'s `by-value`).
 --     Turn, Nearer         where a turn starts, and the order of the turns
---     more, ends, turns    the turn that books a charge, the one that leaves the loop, and either.        walk     the MIR, up to the loop
+--     more, ends, turns    the turn that takes a charge, the one that leaves the loop, and either.        walk     the MIR, up to the loop
 -- Assumes nothing.
 use mathlib.Core.Path.{_≡_, refl, sym, ap, subst, _∙_}
 use Prim.Native.Nat.{ℕ, _+_, _*_, _-_, _<_, _≤_, _^_}
