@@ -78,7 +78,7 @@ pub const POSSIBLE: [(&str, &[u8]); 13] = [
 ];
 
 /// What can happen in a call that is not refused, by the branch of the rule.
-pub const EVENTS: [&str; 37] = [
+pub const EVENTS: [&str; 43] = [
     "new with caller 0",
     "new with caller 255",
     "new with another caller",
@@ -89,9 +89,15 @@ pub const EVENTS: [&str; 37] = [
     "indirect, new entry untainted",
     "indirect, new entry tainted",
     "indirect, its entry",
-    "bind of a cell with a live entry",
-    "bind of a cell without one",
-    "bind to a REF's end",
+    "bind to an EX not known, of a cell with a live entry",
+    "bind to an EX not known, of a cell without an entry",
+    "bind to a REF's end, not known, of a cell without an entry",
+    "bind to a known EX, unsafe, of a cell with a live entry",
+    "bind to a known EX, safe, of a cell with a live entry",
+    "bind to a known EX, of a cell without an entry",
+    "bind to a REF's end, known, unsafe, of a cell with a live entry",
+    "bind to a REF's end, known, safe, of a cell with a live entry",
+    "bind to a REF's end, known, of a cell without an entry",
     "transfer home",
     "transfer elsewhere",
     "drop of a VAR",
@@ -205,10 +211,15 @@ fn event(state: &State, call: Call) -> Option<&'static str> {
         Call::New { .. } => "new with another caller",
         Call::Bind { w, c, x } => {
             live(w, c)?;
-            match (live(w, x)?, state.entry_naming(w, c)) {
-                (Cell::Ref(_), None) => "bind to a REF's end",
-                (_, None) => "bind of a cell without one",
-                (_, Some(_)) => "bind of a cell with a live entry",
+            let through_ref = matches!(live(w, x)?, Cell::Ref(_));
+            let exported = state.entry_naming(w, c).is_some();
+            match state.end_cell(w, x) {
+                Cell::Ex(ex @ Ex { value: Value::Known(_), .. }) => {
+                    event_of_bind_to_known(exported, state.safe(w, ex), through_ref)
+                }
+                _ if exported => "bind to an EX not known, of a cell with a live entry",
+                _ if through_ref => "bind to a REF's end, not known, of a cell without an entry",
+                _ => "bind to an EX not known, of a cell without an entry",
             }
         }
         Call::Export { w, c, .. } => match (live(w, c)?, state.entry_naming(w, c)) {
@@ -250,6 +261,19 @@ fn event(state: &State, call: Call) -> Option<&'static str> {
         Call::Deliver { s } => event_of_message(state, state.slots.get(usize::from(s))?.as_ref()?)?,
         Call::Start { .. } | Call::Set { .. } | Call::Ask { .. } | Call::Bound => return None,
     })
+}
+
+/// Which bind to a known EX it is: whether the VAR has a live entry, whether the
+/// EX is safe, and whether it is a REF's end.
+fn event_of_bind_to_known(exported: bool, safe: bool, through_ref: bool) -> &'static str {
+    match (exported, safe, through_ref) {
+        (true, false, false) => "bind to a known EX, unsafe, of a cell with a live entry",
+        (true, true, false) => "bind to a known EX, safe, of a cell with a live entry",
+        (false, _, false) => "bind to a known EX, of a cell without an entry",
+        (true, false, true) => "bind to a REF's end, known, unsafe, of a cell with a live entry",
+        (true, true, true) => "bind to a REF's end, known, safe, of a cell with a live entry",
+        (false, _, true) => "bind to a REF's end, known, of a cell without an entry",
+    }
 }
 
 fn event_of_message(state: &State, message: &Message) -> Option<&'static str> {
@@ -302,6 +326,8 @@ enum Step {
     New,
     Set,
     Bind,
+    /// A bind to an EX that is known.
+    BindToKnown,
     Export,
     Indirect,
     Transfer,
@@ -332,6 +358,7 @@ const GROW: Mix = &[
     (Step::Deliver, 26),
     (Step::Edge, 1),
     (Step::BadLine, 1),
+    (Step::BindToKnown, 2),
 ];
 
 const CHURN: Mix = &[
@@ -348,6 +375,7 @@ const CHURN: Mix = &[
     (Step::Bound, 2),
     (Step::Edge, 2),
     (Step::BadLine, 1),
+    (Step::BindToKnown, 4),
 ];
 
 const SEND: Mix = &[
@@ -366,6 +394,7 @@ const SEND: Mix = &[
 const READ: Mix = &[
     (Step::Set, 5),
     (Step::Bind, 5),
+    (Step::BindToKnown, 5),
     (Step::Read, 35),
     (Step::Ask, 3),
     (Step::Deliver, 45),
@@ -594,7 +623,8 @@ impl Generator {
         let call = match step {
             Step::New => self.a_new(),
             Step::Set => self.a_set(),
-            Step::Bind => self.a_bind(),
+            Step::Bind => self.a_bind(is_ex),
+            Step::BindToKnown => self.a_bind(is_known),
             Step::Export => self.an_export(),
             Step::Indirect => self.an_indirect(),
             Step::Transfer => self.a_transfer(),
@@ -626,11 +656,12 @@ impl Generator {
         Call::Set { w, c, n: self.number() }
     }
 
-    fn a_bind(&mut self) -> Call {
+    /// A bind to a cell whose end is as wanted.
+    fn a_bind(&mut self, wanted: impl Fn(Cell) -> bool) -> Call {
         let wants_exported = self.random.percent(50);
         let (w, x) = self.cell_or_any(|state, w, c| {
             let mut cells = state.cells[usize::from(w)].iter();
-            is_ex(state.end_cell(w, c)) && cells.any(|cell| is_var(*cell))
+            wanted(state.end_cell(w, c)) && cells.any(|cell| is_var(*cell))
         });
         let c = self.cell(|state, owner, c| {
             let exported = state.entry_naming(owner, c).is_some();
@@ -1000,6 +1031,86 @@ impl Generator {
         }
     }
 
+    /// Binds VARs, some of which others read, to an EX while it is idle, while it
+    /// is reading and once it is known, or to a REF to it. What follows tells a
+    /// VAL from a REF.
+    fn binds_around_an_answer(&mut self) {
+        let owner = self.worker();
+        let Some(origin) = self.new_cell(owner) else {
+            return;
+        };
+        let (mut w, mut x) = (owner, origin);
+        // The entry of a second link may be tainted.
+        for _ in 0..1 + self.random.below(2) {
+            let to = self.other_worker(w);
+            let Some(cell) = self.link(w, x, to) else {
+                return;
+            };
+            (w, x) = (to, cell);
+        }
+        let mut vars = Vec::new();
+        for _ in 0..4 {
+            vars.extend(self.new_cell(w));
+            vars.extend(self.a_var_that_is_read(w));
+        }
+        let Some(first) = vars.first().copied() else {
+            return;
+        };
+
+        // Idle: the first becomes a REF, to which others are bound.
+        self.call(Call::Bind { w, c: first, x });
+        let leads_to_x = [x, first];
+        self.perhaps_bind_one(w, &vars, leads_to_x);
+        let read = self.done(Call::Read { w, c: x });
+        self.perhaps_bind_one(w, &vars, leads_to_x);
+        let n = self.number();
+        self.call(Call::Set { w: owner, c: origin, n });
+        if let Some(s) = read {
+            // Along two links at most, and back as the Answer.
+            for _ in 0..3 {
+                self.call(Call::Deliver { s });
+            }
+        }
+        for c in vars.iter().copied().skip(1) {
+            let x = self.random.one_of(&leads_to_x);
+            self.call(Call::Bind { w, c, x });
+        }
+
+        self.call(Call::Drop { w, c: first });
+        for _ in 0..10 {
+            let c = self.random.one_of(&vars);
+            let to = self.other_worker(w);
+            let call = match self.random.below(7) {
+                0 => Call::Read { w, c },
+                1 => Call::Ask { w, c },
+                2 => Call::Indirect { w, c, to },
+                3 => Call::Drop { w, c: x },
+                4 => Call::Transfer { w, c: x, to },
+                _ => self.a_deliver(),
+            };
+            self.call(call);
+        }
+    }
+
+    /// A VAR of a worker that another one reads, if it can be sent there.
+    fn a_var_that_is_read(&mut self, w: u8) -> Option<u8> {
+        let c = self.new_cell(w)?;
+        let reader = self.other_worker(w);
+        if let Some(there) = self.hand_over(Call::Export { w, c, to: reader }) {
+            self.call(Call::Read { w: reader, c: there });
+        }
+        Some(c)
+    }
+
+    /// Binds, in half of all cases, one of the cells to one that leads to x.
+    fn perhaps_bind_one(&mut self, w: u8, cells: &[u8], leads_to_x: [u8; 2]) {
+        if self.random.percent(50) {
+            let c = self.random.one_of(cells);
+            let x = self.random.one_of(&leads_to_x);
+            self.call(Call::Bind { w, c, x });
+        }
+    }
+
     /// Halves the weight of an EX down to 1.
     fn split(&mut self) {
         let found = self.cell(|state, w, c| is_ex(state.cell(w, c)));
@@ -1125,7 +1236,7 @@ impl Generator {
     /// Any phase but the long ones.
     fn some_phase(&mut self) {
         let count = 10 + self.random.below(150);
-        match self.random.below(16) {
+        match self.random.below(17) {
             0 | 1 => self.steps(GROW, count),
             2 | 3 => self.steps(CHURN, count),
             4 => self.steps(READ, count),
@@ -1137,6 +1248,7 @@ impl Generator {
             10 => self.drain(),
             11 | 12 => self.chain(),
             13 | 14 => self.split(),
+            15 => self.binds_around_an_answer(),
             _ => match self.random.below(4) {
                 0 => self.tear_down(),
                 1 => self.probe(),
@@ -1148,8 +1260,8 @@ impl Generator {
 
     // ------------------------------------------- states for the benchmark
 
-    /// A step of the benchmark. Every caller is 0, so that its inputs stay the
-    /// same and its figures can be compared.
+    /// A step of the benchmark. Every caller is 0, so that callers change nothing
+    /// in its inputs.
     fn step_of_caller_0(&mut self, step: Step) {
         match step {
             Step::New => {
@@ -1215,6 +1327,10 @@ fn is_var(cell: Cell) -> bool {
 
 fn is_ex(cell: Cell) -> bool {
     matches!(cell, Cell::Ex(_))
+}
+
+fn is_known(cell: Cell) -> bool {
+    matches!(cell, Cell::Ex(Ex { value: Value::Known(_), .. }))
 }
 
 fn weight(cell: Cell) -> u32 {
@@ -1382,36 +1498,76 @@ mod tests {
         assert_eq!(coverage.gaps(), Vec::<String>::new());
     }
 
-    /// Refusal 16 together with 3, with 12 and alone; and lines that are not
-    /// frames of new for their second or third byte alone.
-    #[test]
-    fn the_first_cases_meet_callers_above_255() {
-        let (mut with_3, mut with_12, mut alone, mut no_frames) = (0, 0, 0, 0);
-        let digits = b"0123456789abcdef";
+    /// Shows each line of the first cases that are run, with the state before it.
+    fn each_line(mut show: impl FnMut(&State, &[u8])) {
         for text in (1..=180).map(|seed| case(seed).text) {
             if text.len() > LONGEST_INPUT {
                 continue;
             }
             let mut state = State::closed();
             for line in text.split(|byte| *byte == b'\n') {
-                let Some(call) = model::decode(line) else {
-                    let has_digits = line.iter().all(|byte| digits.contains(byte));
-                    let is_near = line.len() == 16 && line.starts_with(b"02") && has_digits;
-                    no_frames += u32::from(is_near);
-                    continue;
-                };
-                match call {
-                    Call::New { w, caller: 256.. } if w >= state.workers => with_3 += 1,
-                    Call::New { w, caller: 256.. } if state.free_cells(w) <= state.booked(w) => {
-                        with_12 += 1;
-                    }
-                    Call::New { caller: 256.., .. } => alone += 1,
-                    _ => {}
+                show(&state, line);
+                if let Some(call) = model::decode(line) {
+                    state.call_with::<false>(call).ok();
                 }
-                state.call_with::<false>(call).ok();
             }
         }
+    }
+
+    /// Refusal 16 together with 3, with 12 and alone; and lines that are not
+    /// frames of new for their second or third byte alone.
+    #[test]
+    fn the_first_cases_meet_callers_above_255() {
+        let (mut with_3, mut with_12, mut alone, mut no_frames) = (0, 0, 0, 0);
+        let digits = b"0123456789abcdef";
+        each_line(|state, line| match model::decode(line) {
+            None => {
+                let has_digits = line.iter().all(|byte| digits.contains(byte));
+                let is_near = line.len() == 16 && line.starts_with(b"02") && has_digits;
+                no_frames += u32::from(is_near);
+            }
+            Some(Call::New { w, caller: 256.. }) if w >= state.workers => with_3 += 1,
+            Some(Call::New { w, caller: 256.. }) if state.free_cells(w) <= state.booked(w) => {
+                with_12 += 1;
+            }
+            Some(Call::New { caller: 256.., .. }) => alone += 1,
+            Some(_) => {}
+        });
         let met = [with_3, with_12, alone, no_frames];
+        assert!(!met.contains(&0), "{met:?}");
+    }
+
+    /// Refusal 8 for an EX that is idle and for one that is reading, each also
+    /// at a REF's end; and binds to a known EX that make a Read ready.
+    #[test]
+    fn the_first_cases_meet_binds_before_and_after_an_answer() {
+        let ready = |state: &State| {
+            let messages = state.messages();
+            messages.filter(|message| state.ready(*message)).count()
+        };
+        let (mut idle, mut reading) = ([0, 0], [0, 0]);
+        let mut made_ready = 0;
+        each_line(|state, line| {
+            let Some(call @ Call::Bind { w, x, .. }) = model::decode(line) else {
+                return;
+            };
+            let mut next = state.clone();
+            match next.call_with::<false>(call) {
+                Ok(_) if is_known(state.end_cell(w, x)) => {
+                    made_ready += u32::from(ready(&next) > ready(state));
+                }
+                Err(Refusal::Unsafe) => {
+                    let through_ref = usize::from(!is_ex(state.cell(w, x)));
+                    match state.end_cell(w, x) {
+                        Cell::Ex(Ex { value: Value::Idle, .. }) => idle[through_ref] += 1,
+                        Cell::Ex(Ex { value: Value::Reading, .. }) => reading[through_ref] += 1,
+                        other => panic!("{call} is refused 8 for {other:?}"),
+                    }
+                }
+                _ => {}
+            }
+        });
+        let met = [idle[0], idle[1], reading[0], reading[1], made_ready];
         assert!(!met.contains(&0), "{met:?}");
     }
 }

@@ -1,10 +1,11 @@
 //! Safe functions over the Endrusp library, and a plain model to compare it
 //! with.
 //!
-//! [`run`] and [`run_into`] run the text program of document 01, with W-201 of
-//! document 02, in the linked library, the archive `libforeign.a`. They need the
-//! feature `linked`, which is on by default. [`model`] has the same rules,
-//! written a second time, plainly and apart from the library; it links nothing.
+//! [`run`] and [`run_into`] run the text program of document 01, with W-201 and
+//! W-203 of document 02, in the linked library, the archive `libforeign.a`. They
+//! need the feature `linked`, which is on by default. [`model`] has the same
+//! rules, written a second time, plainly and apart from the library; it links
+//! nothing.
 //!
 //! ```
 //! # #[cfg(feature = "linked")]

@@ -1,6 +1,6 @@
 //! A plain model of document 01, "What is being built, with exact rules", and of
-//! what document 02 changes in it: W-201, "Charge time to callers", and W-202,
-//! "Cost report".
+//! what document 02 changes in it: W-201, "Charge time to callers", W-202, "Cost
+//! report", and W-203, "Bind to a reference whose value is known".
 //!
 //! The model is written from the documents and from nothing else, so that it
 //! can be compared with the library. It is meant to be read beside them: every
@@ -186,7 +186,8 @@ pub enum Refusal {
     WrongKind = 6,
     /// "busy".
     Busy = 7,
-    /// "c has a live entry and the EX is unsafe".
+    /// "c has a live entry and the EX is unsafe". W-203: "only for an EX that is
+    /// not known."
     Unsafe = 8,
     /// "EX of weight 1".
     WeightOne = 9,
@@ -711,20 +712,29 @@ impl State {
     }
 
     /// "bind(w, c, x): c is a VAR, the end of x an EX; c becomes a REF to that
-    /// end." W-201: "A bind loses the variable's own caller".
+    /// end." W-201: "A bind loses the variable's own caller". W-203: "binding to
+    /// a known EX makes the cell VAL with that value, exported or not, and names
+    /// no EX; the cell keeps its own caller, which amends W-201 for this one
+    /// case. [..] Refusal 8 is given only for an EX that is not known."
     fn bind(&mut self, w: u8, c: u8, x: u8) -> Outcome {
         self.test_worker(w)?;
         let cell = self.test_cell(w, c)?;
         self.test_cell(w, x)?;
         let end = self.end(w, x);
-        let (Cell::Var { .. }, Cell::Ex(ex)) = (cell, self.cell(w, end)) else {
+        let (Cell::Var { caller }, Cell::Ex(ex)) = (cell, self.cell(w, end)) else {
             return Err(Refusal::WrongKind);
         };
-        if self.entry_naming(w, c).is_some() && !self.safe(w, ex) {
-            return Err(Refusal::Unsafe);
-        }
+        let bound = match ex.value {
+            Value::Known(n) => Cell::Val { n, caller },
+            Value::Idle | Value::Reading => {
+                if self.entry_naming(w, c).is_some() && !self.safe(w, ex) {
+                    return Err(Refusal::Unsafe);
+                }
+                Cell::Ref(end)
+            }
+        };
 
-        self.set_cell(w, c, Cell::Ref(end));
+        self.set_cell(w, c, bound);
         Ok(Answer::Done(0))
     }
 

@@ -1,6 +1,6 @@
-//! What becomes of callers, state by state: the model must write what the
-//! library's test program `caller_cases` writes, each frame with its answer and
-//! after it every cell that is not free.
+//! What becomes of callers, also where a bind to a known EX keeps one, state by
+//! state: the model must write what the library's test program `caller_cases`
+//! writes, each frame with its answer and after it every cell that is not free.
 
 use endrusp::model::{self, Cell, Entry, Ex, Message, State, Value};
 use std::fmt::Write;
@@ -38,6 +38,15 @@ fn made(name: &str) -> State {
             }
             state.entries[0][0] = entry(0, 1_024);
             state.slots[0] = Some(Message::Reference { to: 1, owner: 0, entry: 0, weight: 1_024 });
+        }
+        "knowing" => {
+            state.cells[0][0] = Cell::Val { n: 6, caller: 3 };
+            state.cells[0][1] = ex(1, 0, 7, Value::Idle);
+            state.cells[1][0] = ex(0, 0, 5, Value::Known(0));
+            state.cells[1][1] = Cell::Var { caller: 255 };
+            state.cells[1][2] = Cell::Ref(0);
+            state.entries[0][0] = entry(0, 5);
+            state.entries[1][0] = entry(1, 7);
         }
         "unsound" => {
             state.cells[0][0] = Cell::Var { caller: 4 };
@@ -90,5 +99,5 @@ fn the_model_writes_what_caller_cases_writes() {
         written += &cells(&state);
     }
     assert_eq!(written, WRITTEN);
-    assert_eq!(calls, 56);
+    assert_eq!(calls, 87);
 }

@@ -1,5 +1,6 @@
 //! The numbered cases of document 01, the run it prints, the places where its
-//! words are easily misread, and the callers of W-201, all on the model.
+//! words are easily misread, the callers of W-201, and the binds of W-203, all on
+//! the model.
 
 use endrusp::model::{
     self, Answer, CEILING, CELLS, Call, Cell, ENTRIES, Entry, Ex, LONGEST_INPUT, Message, Outcome,
@@ -541,7 +542,7 @@ fn set_keeps_the_caller() {
 }
 
 /// "A bind loses the variable's own caller", and "a REF or EX has none of its
-/// own".
+/// own". A bind to an EX that is known is W-203's.
 #[test]
 fn a_bind_loses_the_caller() {
     // VAR 1 of worker 1, exported or not, with a caller.
@@ -737,6 +738,356 @@ fn callers_in_a_text() {
 0201000000000008  0000000000
 ";
     let (input, output) = columns(&run);
+    assert_eq!(String::from_utf8(run_text(input.as_bytes())), Ok(output));
+}
+
+// -------------------------------------------------------- the binds of W-203
+
+/// VAR 0 of an owner, of caller 7, exported to a worker and delivered as its
+/// cell 0; there are three workers.
+fn imported_from(owner: u8, w: u8) -> State {
+    let mut state = started(3);
+    assert_eq!(value(&mut state, Call::New { w: owner, caller: 7 }), 0);
+    assert_eq!(sent_and_delivered(&mut state, Call::Export { w: owner, c: 0, to: w }), 0);
+    state
+}
+
+/// The VAR is set, and the EX that names it read and answered.
+fn set_and_answered(state: &mut State, owner: u8, w: u8, n: u32) {
+    assert_eq!(state.call(Call::Set { w: owner, c: 0, n }), done(0));
+    let s = value(state, Call::Read { w, c: 0 });
+    assert_eq!(state.call(Call::Deliver { s }), done(0));
+    assert_eq!(state.call(Call::Deliver { s }), done(0));
+    assert_eq!(ex(state, w, 0).value, Value::Known(n));
+}
+
+fn known_from(owner: u8, w: u8, n: u32) -> State {
+    let mut state = imported_from(owner, w);
+    set_and_answered(&mut state, owner, w, n);
+    state
+}
+
+/// A VAR of a worker, exported to another and delivered there.
+fn exported_var(state: &mut State, w: u8, caller: u32, to: u8) -> u8 {
+    let c = value(state, Call::New { w, caller });
+    sent_and_delivered(state, Call::Export { w, c, to });
+    c
+}
+
+/// A VAR of a worker, bound to its cell 0, an EX that is not known: a REF.
+fn ref_to_the_ex(state: &mut State, w: u8) -> u8 {
+    let c = value(state, Call::New { w, caller: 9 });
+    assert_eq!(state.call(Call::Bind { w, c, x: 0 }), done(0));
+    assert_eq!(state.cell(w, c), Cell::Ref(0));
+    c
+}
+
+/// A bind that is done, makes a VAL with this caller, and changes nothing else.
+fn bound_to_a_value(state: &mut State, bind: Call, n: u32, caller: u8) {
+    let Call::Bind { w, c, .. } = bind else {
+        panic!("{bind} is no bind");
+    };
+    let mut expected = state.clone();
+    expected.cells[usize::from(w)][usize::from(c)] = Cell::Val { n, caller };
+    assert_eq!(state.call(bind), done(0), "{bind}");
+    assert_eq!(*state, expected, "{bind}");
+    assert_eq!(state.first_broken_point(), 0, "{bind}");
+    assert_eq!(state.call(Call::Read { w, c }), done(n), "{bind}");
+}
+
+/// "binding to a known EX makes the cell VAL with that value, exported or not",
+/// for a safe EX as for an unsafe one, and "the cell keeps its own caller",
+/// which is not the one at the end of the chain.
+#[test]
+fn a_bind_to_a_known_ex_makes_a_val() {
+    for (owner, w, is_safe) in [(1, 0, false), (2, 1, false), (0, 1, true), (1, 2, true)] {
+        for n in [0, 1, 1 << 31, 4_294_967_295] {
+            for caller in [0, 6, 8, 255] {
+                let mut state = known_from(owner, w, n);
+                assert_eq!(state.safe(w, ex(&state, w, 0)), is_safe);
+                let alone = value(&mut state, Call::New { w, caller: u32::from(caller) });
+                let exported = exported_var(&mut state, w, u32::from(caller), (w + 1) % 3);
+                bound_to_a_value(&mut state, Call::Bind { w, c: alone, x: 0 }, n, caller);
+                bound_to_a_value(&mut state, Call::Bind { w, c: exported, x: 0 }, n, caller);
+            }
+        }
+    }
+}
+
+/// x is a REF to the known EX, which stays a REF.
+#[test]
+fn a_bind_to_a_ref_whose_end_is_known_makes_a_val() {
+    for (owner, w) in [(1, 0), (0, 1)] {
+        for n in [0, 4_294_967_295] {
+            let mut state = imported_from(owner, w);
+            let x = ref_to_the_ex(&mut state, w);
+            let alone = value(&mut state, Call::New { w, caller: 8 });
+            let exported = exported_var(&mut state, w, 255, owner);
+            set_and_answered(&mut state, owner, w, n);
+            bound_to_a_value(&mut state, Call::Bind { w, c: alone, x }, n, 8);
+            bound_to_a_value(&mut state, Call::Bind { w, c: exported, x }, n, 255);
+            assert_eq!(state.cell(w, x), Cell::Ref(0));
+        }
+    }
+}
+
+/// "Refusal 8 is given only for an EX that is not known": one EX, or a REF to
+/// it, while it is idle, while it is reading, and once it is known.
+#[test]
+fn an_unsafe_ex_is_refused_until_it_is_known() {
+    let mut state = imported_from(1, 0);
+    let to_the_ex = ref_to_the_ex(&mut state, 0);
+    let vars = [8, 9].map(|caller| exported_var(&mut state, 0, caller, 1));
+    let binds =
+        [Call::Bind { w: 0, c: vars[0], x: 0 }, Call::Bind { w: 0, c: vars[1], x: to_the_ex }];
+    let both_refused = |state: &mut State| {
+        for bind in binds {
+            assert_eq!(refused(state, bind), Refusal::Unsafe, "{bind}");
+        }
+    };
+
+    both_refused(&mut state);
+    let s = value(&mut state, Call::Read { w: 0, c: 0 });
+    both_refused(&mut state);
+    // The value is at the owner, then on its way: the EX is reading.
+    value(&mut state, Call::Set { w: 1, c: 0, n: 6 });
+    both_refused(&mut state);
+    value(&mut state, Call::Deliver { s });
+    assert_eq!(state.slots[usize::from(s)], Some(Message::Answer { reader: 0, cell: 0, n: 6 }));
+    both_refused(&mut state);
+    value(&mut state, Call::Deliver { s });
+    bound_to_a_value(&mut state, binds[0], 6, 8);
+    bound_to_a_value(&mut state, binds[1], 6, 9);
+}
+
+/// An EX that is unsafe for its entry's mark alone.
+#[test]
+fn an_ex_of_a_tainted_entry_is_refused_until_it_is_known() {
+    let mut state = imported_from(2, 0);
+    assert_eq!(sent_and_delivered(&mut state, Call::Indirect { w: 0, c: 0, to: 1 }), 0);
+    assert_eq!((ex(&state, 1, 0).owner, ex(&state, 1, 0).entry), (0, 0));
+    assert_eq!(state.entry(0, 0), Some(Entry { cell: 0, weight: 1_024, tainted: true }));
+    let c = exported_var(&mut state, 1, 8, 2);
+    let bind = Call::Bind { w: 1, c, x: 0 };
+    assert_eq!(refused(&mut state, bind), Refusal::Unsafe);
+
+    value(&mut state, Call::Set { w: 2, c: 0, n: 5 });
+    let s = value(&mut state, Call::Read { w: 1, c: 0 });
+    // On to worker 2, there an Answer, and back.
+    for _ in 0..3 {
+        assert_eq!(refused(&mut state, bind), Refusal::Unsafe);
+        assert_eq!(state.call(Call::Deliver { s }), done(0));
+    }
+    bound_to_a_value(&mut state, bind, 5, 8);
+}
+
+/// A safe EX makes a REF of an exported VAR while it is idle and while it is
+/// reading, and a VAL once it is known. The REFs stay.
+#[test]
+fn a_safe_ex_makes_a_ref_until_it_is_known() {
+    let mut state = imported_from(0, 1);
+    assert_eq!([8, 9, 10].map(|caller| exported_var(&mut state, 1, caller, 2)), [1, 2, 3]);
+    assert_eq!(state.call(Call::Bind { w: 1, c: 1, x: 0 }), done(0));
+    let s = value(&mut state, Call::Read { w: 1, c: 0 });
+    assert_eq!(state.call(Call::Bind { w: 1, c: 2, x: 0 }), done(0));
+    value(&mut state, Call::Set { w: 0, c: 0, n: 6 });
+    value(&mut state, Call::Deliver { s });
+    value(&mut state, Call::Deliver { s });
+    bound_to_a_value(&mut state, Call::Bind { w: 1, c: 3, x: 0 }, 6, 10);
+    assert_eq!(state.cells[1][1..3], [Cell::Ref(0), Cell::Ref(0)]);
+}
+
+/// K6 goes on as it began: its EX leads back to the VAR and is not known as long
+/// as that is one.
+#[test]
+fn the_circle_of_k6_is_never_closed() {
+    let mut state = started(2);
+    value(&mut state, Call::New { w: 1, caller: 7 });
+    sent_and_delivered(&mut state, Call::Export { w: 1, c: 0, to: 0 });
+    assert_eq!(sent_and_delivered(&mut state, Call::Indirect { w: 0, c: 0, to: 1 }), 1);
+    let bind = Call::Bind { w: 1, c: 0, x: 1 };
+    assert_eq!(refused(&mut state, bind), Refusal::Unsafe);
+    assert_eq!(state.call(Call::Read { w: 1, c: 1 }), Ok(Answer::Sent(0)));
+    assert_eq!(refused(&mut state, bind), Refusal::Unsafe);
+    assert_eq!(state.call(Call::Deliver { s: 0 }), done(0));
+    assert_eq!(refused(&mut state, Call::Deliver { s: 0 }), Refusal::NotReady);
+    assert_eq!(refused(&mut state, bind), Refusal::Unsafe);
+
+    // Once it is known, the cell is a VAL.
+    value(&mut state, Call::Set { w: 1, c: 0, n: 5 });
+    assert_eq!(state.call(Call::Deliver { s: 0 }), done(0));
+    assert_eq!(state.call(Call::Deliver { s: 0 }), done(1));
+    assert_eq!(refused(&mut state, bind), Refusal::WrongKind);
+    // Another exported VAR is bound to it.
+    let c = exported_var(&mut state, 1, 8, 0);
+    bound_to_a_value(&mut state, Call::Bind { w: 1, c, x: 1 }, 5, 8);
+}
+
+/// Reads that wait for an exported VAR are answered with the value it was bound
+/// to.
+#[test]
+fn reads_that_wait_are_answered_after_a_bind_to_a_known_ex() {
+    for n in [0, 5, 4_294_967_295] {
+        // VAR 1 of worker 0 is cell 1 of worker 1 and cell 0 of worker 2.
+        let mut state = known_from(1, 0, n);
+        assert_eq!(exported_var(&mut state, 0, 8, 1), 1);
+        assert_eq!(sent_and_delivered(&mut state, Call::Export { w: 0, c: 1, to: 2 }), 0);
+        assert_eq!(state.call(Call::Read { w: 1, c: 1 }), Ok(Answer::Sent(0)));
+        assert_eq!(state.call(Call::Read { w: 2, c: 0 }), Ok(Answer::Sent(1)));
+        for s in [0, 1] {
+            assert_eq!(refused(&mut state, Call::Deliver { s }), Refusal::NotReady);
+        }
+        // Two Reads and two live entries: E + 1 each.
+        assert_eq!(state.call(Call::Bound), done(6));
+
+        bound_to_a_value(&mut state, Call::Bind { w: 0, c: 1, x: 0 }, n, 8);
+        assert_eq!(state.call(Call::Bound), done(6));
+        for (s, reader, cell) in [(1, 2, 0), (0, 1, 1)] {
+            assert_eq!(state.call(Call::Deliver { s }), done(0));
+            assert_eq!(state.slots[usize::from(s)], Some(Message::Answer { reader, cell, n }));
+            assert_eq!(state.call(Call::Deliver { s }), done(u32::from(cell)));
+            assert_eq!(state.call(Call::Read { w: reader, c: cell }), done(n));
+        }
+        assert_eq!(state.call(Call::Bound), done(0));
+    }
+}
+
+/// "and names no EX": the EX can go, and the VAL stays.
+#[test]
+fn a_bind_to_a_known_ex_does_not_make_it_busy() {
+    let mut state = known_from(1, 0, 5);
+    let alone = value(&mut state, Call::New { w: 0, caller: 8 });
+    let exported = exported_var(&mut state, 0, 9, 2);
+    bound_to_a_value(&mut state, Call::Bind { w: 0, c: alone, x: 0 }, 5, 8);
+    bound_to_a_value(&mut state, Call::Bind { w: 0, c: exported, x: 0 }, 5, 9);
+    assert!(!state.busy(0, 0));
+    let transfer = |to| Call::Transfer { w: 0, c: 0, to };
+    for (call, delivered, entry_is_live) in [
+        (Call::Drop { w: 0, c: 0 }, 0, false),
+        (transfer(1), 0, false),
+        // Cell 0 of worker 2 is the EX of the exported cell.
+        (transfer(2), 1, true),
+    ] {
+        let mut state = state.clone();
+        assert_eq!(sent_and_delivered(&mut state, call), delivered, "{call}");
+        assert_eq!(state.cell(0, 0), Cell::Free, "{call}");
+        assert_eq!(state.entry(1, 0).is_some(), entry_is_live, "{call}");
+        assert_eq!(state.cell(0, alone), Cell::Val { n: 5, caller: 8 }, "{call}");
+        assert_eq!(state.cell(0, exported), Cell::Val { n: 5, caller: 9 }, "{call}");
+    }
+}
+
+/// An EX that is busy with something else stays so: with a REF from before, or
+/// asking.
+#[test]
+fn a_bind_to_a_known_ex_leaves_it_as_busy_as_it_was() {
+    let mut state = imported_from(1, 0);
+    let to_the_ex = ref_to_the_ex(&mut state, 0);
+    set_and_answered(&mut state, 1, 0, 5);
+    let c = exported_var(&mut state, 0, 8, 1);
+    assert_eq!(state.call(Call::Ask { w: 0, c: 0 }), Ok(Answer::Sent(0)));
+    bound_to_a_value(&mut state, Call::Bind { w: 0, c, x: 0 }, 5, 8);
+
+    let drop_the_ex = Call::Drop { w: 0, c: 0 };
+    assert_eq!(refused(&mut state, drop_the_ex), Refusal::Busy);
+    assert_eq!(state.call(Call::Drop { w: 0, c: to_the_ex }), done(64));
+    assert_eq!(refused(&mut state, drop_the_ex), Refusal::Busy);
+    assert_eq!(state.call(Call::Deliver { s: 0 }), done(0));
+    assert_eq!(state.call(Call::Deliver { s: 0 }), done(0));
+    assert_eq!(state.call(drop_the_ex), done(0));
+}
+
+/// To every call the cell is a VAL.
+#[test]
+fn what_was_bound_to_a_known_ex_is_a_val_from_then_on() {
+    let mut state = known_from(1, 0, 5);
+    let c = value(&mut state, Call::New { w: 0, caller: 8 });
+    let other = value(&mut state, Call::New { w: 0, caller: 9 });
+    bound_to_a_value(&mut state, Call::Bind { w: 0, c, x: 0 }, 5, 8);
+    for call in [
+        Call::Set { w: 0, c, n: 6 },
+        Call::Bind { w: 0, c, x: 0 },
+        Call::Bind { w: 0, c: other, x: c },
+        Call::Indirect { w: 0, c, to: 1 },
+        Call::Transfer { w: 0, c, to: 1 },
+        Call::Ask { w: 0, c },
+    ] {
+        assert_eq!(refused(&mut state, call), Refusal::WrongKind, "{call}");
+    }
+    // By location: the weight of the EX is not touched.
+    assert_eq!(state.call(Call::Export { w: 0, c, to: 2 }), done(0));
+    let reference = Message::Reference { to: 2, owner: 0, entry: 0, weight: 1_024 };
+    assert_eq!(state.slots[0], Some(reference));
+    assert_eq!(state.entry(0, 0), Some(Entry { cell: c, weight: 1_024, tainted: false }));
+    assert_eq!(ex(&state, 0, 0).weight, 1_024);
+}
+
+/// The refusals before 8 are as they were.
+#[test]
+fn a_known_ex_does_not_change_the_other_refusals_of_bind() {
+    let mut state = imported_from(1, 0);
+    let to_the_ex = ref_to_the_ex(&mut state, 0);
+    set_and_answered(&mut state, 1, 0, 5);
+    let var = exported_var(&mut state, 0, 8, 1);
+    let val = value(&mut state, Call::New { w: 0, caller: 9 });
+    value(&mut state, Call::Set { w: 0, c: val, n: 6 });
+    let bind = |w, c, x| Call::Bind { w, c, x };
+
+    for w in [3, 8, 255] {
+        assert_eq!(refused(&mut state, bind(w, var, 0)), Refusal::NoSuchWorker);
+    }
+    for none in [31, 32, 255] {
+        assert_eq!(refused(&mut state, bind(0, none, 0)), Refusal::NoSuchCell);
+        assert_eq!(refused(&mut state, bind(0, var, none)), Refusal::NoSuchCell);
+        assert_eq!(refused(&mut state, bind(0, val, none)), Refusal::NoSuchCell);
+    }
+    for c in [0, to_the_ex, val] {
+        assert_eq!(refused(&mut state, bind(0, c, 0)), Refusal::WrongKind);
+        assert_eq!(refused(&mut state, bind(0, c, to_the_ex)), Refusal::WrongKind);
+    }
+    for x in [var, val] {
+        assert_eq!(refused(&mut state, bind(0, var, x)), Refusal::WrongKind);
+    }
+    let mut unsound = state.clone();
+    unsound.entries[1][0] = None;
+    assert_eq!(refused(&mut unsound, bind(0, var, 0)), Refusal::NotSound);
+    bound_to_a_value(&mut state, bind(0, var, 0), 5, 8);
+}
+
+/// Frames of bind while the EX is idle, reading and known, with a Read that
+/// waits for the variable, and the EX dropped before that is answered.
+#[test]
+fn a_bind_to_a_known_ex_in_a_text() {
+    let run = "\
+0102000000000000  0000000000
+0201000000000007  0000000000
+0501000000000000  0000000000
+0b00000000000000  0000000000
+0200000000000008  0000000001
+0500010100000000  0000000000
+0b00000000000000  0000000001
+0901010000000000  4000000000
+0b00000000000000  0f00000000
+0400010000000000  0800000000
+0900000000000000  4000000001
+0400010000000000  0800000000
+03010000ffffffff  0000000000
+0b01000000000000  0000000000
+0400010000000000  0800000000
+0b01000000000000  0000000000
+0400010000000000  0000000000
+0900010000000000  00ffffffff
+0400010000000000  0600000000
+0a00010000000000  0600000000
+0800000000000000  0000000001
+0b01000000000000  0000000000
+0801000000000000  0000000040
+0b00000000000000  0000000000
+0b00000000000000  0000000001
+0901010000000000  00ffffffff
+0c00000000000000  0000000000
+";
+    let (input, output) = columns(run);
     assert_eq!(String::from_utf8(run_text(input.as_bytes())), Ok(output));
 }
 

@@ -459,6 +459,69 @@ fn a_chain_through_a_known_ex() {
     assert_eq!(state.report(&charges), all_to_7);
 }
 
+/// W-203: "the cell keeps its own caller, which amends W-201 for this one case."
+/// The value is known before the bind.
+#[test]
+fn a_bind_to_a_known_ex_moves_no_cost() {
+    let charges = [
+        charge(0, 0, 1),
+        charge(1, 0, 10),
+        charge(1, 1, 100),
+        charge(2, 0, 1_000),
+        charge(2, 1, 10_000),
+    ];
+    let each_to_its_own = reported(&[(7, 11), (8, 11_100)], 0, 5, 0);
+    let mut state = before_the_bind();
+    value(&mut state, Call::Set { w: 0, c: 0, n: 5 });
+    read_and_answered(&mut state, 1, 0);
+    assert_eq!(state.report(&charges), each_to_its_own);
+    assert_eq!(state.call(Call::Bind { w: 1, c: 1, x: 0 }), done(0));
+    assert_eq!(state.cell(1, 1), Cell::Val { n: 5, caller: 8 });
+    assert_eq!(state.report(&charges), each_to_its_own);
+
+    // On at worker 2: its EX is known, and a REF to it was there before. What is
+    // bound to either pays for itself, the REF goes on to caller 8.
+    read_and_answered(&mut state, 2, 0);
+    for (c, caller, x) in [(2, 10, 0), (3, 255, 1)] {
+        assert_eq!(value(&mut state, Call::New { w: 2, caller }), c);
+        assert_eq!(state.call(Call::Bind { w: 2, c, x }), done(0));
+    }
+    let bound = [charge(2, 2, -3), charge(2, 3, 40), charge(2, 2, i32::MAX)];
+    let expected = reported(&[(10, 2_147_483_644), (255, 40)], 0, 3, 0);
+    assert_eq!(state.report(&bound), expected);
+    assert_eq!(state.report(&charges), each_to_its_own);
+
+    // So it is when the EX of worker 1 is gone, and with it the way to caller 7.
+    sent_and_delivered(&mut state, Call::Drop { w: 1, c: 0 });
+    let gone = reported(&[(7, 1), (8, 11_100)], 10, 4, 1);
+    assert_eq!(state.report(&charges), gone);
+}
+
+/// The same for an EX that is unsafe: before it is known, the bind is refused.
+#[test]
+fn a_bind_to_a_known_unsafe_ex_moves_no_cost() {
+    // VAR 0 of worker 1, of caller 7, is cell 0 at worker 0. VAR 1 of worker 0,
+    // of caller 9, is cell 1 at worker 1.
+    let mut state = started(2);
+    assert_eq!(value(&mut state, Call::New { w: 1, caller: 7 }), 0);
+    assert_eq!(sent_and_delivered(&mut state, Call::Export { w: 1, c: 0, to: 0 }), 0);
+    assert_eq!(value(&mut state, Call::New { w: 0, caller: 9 }), 1);
+    assert_eq!(sent_and_delivered(&mut state, Call::Export { w: 0, c: 1, to: 1 }), 1);
+    let charges = [charge(1, 0, 1), charge(0, 0, 20), charge(0, 1, 300), charge(1, 1, -4_000)];
+    let each_to_its_own = reported(&[(7, 21), (9, -3_700)], 0, 4, 0);
+    let bind = Call::Bind { w: 0, c: 1, x: 0 };
+    assert_eq!(state.call(bind), Err(Refusal::Unsafe));
+    assert_eq!(state.report(&charges), each_to_its_own);
+
+    value(&mut state, Call::Set { w: 1, c: 0, n: 0 });
+    read_and_answered(&mut state, 0, 0);
+    assert_eq!(state.call(bind), done(0));
+    assert_eq!(state.cell(0, 1), Cell::Val { n: 0, caller: 9 });
+    assert_eq!(state.report(&charges), each_to_its_own);
+    read_and_answered(&mut state, 1, 1);
+    assert_eq!(state.report(&charges), each_to_its_own);
+}
+
 /// A bind that is refused leaves the cost where it was. As in K6.
 #[test]
 fn a_refused_bind_moves_no_cost() {
@@ -684,13 +747,26 @@ fn replay(seed: u64, mut show: impl FnMut(Call, Outcome, &State)) {
     }
 }
 
+/// What was met of binds that are done.
+#[derive(Debug, Default)]
+struct Met {
+    binds: u32,
+    /// Other cells whose chains ended in the cell that was bound.
+    led_there: u32,
+    /// Cells, the one that was bound among them, whose payer was another than
+    /// that of the EX.
+    of_other_callers: u32,
+}
+
 /// In every state every cell that is not free has a payer, the one at the end
 /// of its chain. A bind that is done moves its cell, and what leads there, to
-/// the end of the other's chain; nothing else moves a chain that is there
-/// before and after, and no other call moves any.
+/// the end of the other's chain, unless the EX is known: then the cell stays the
+/// end of these chains, and its own caller pays. Nothing else moves a chain that
+/// is there before and after, and no other call moves any.
 #[test]
-fn only_a_bind_moves_cost() {
-    let (mut binds, mut led_there, mut to_other_callers, mut stayed) = (0, 0, 0, 0);
+fn only_a_bind_to_what_is_not_known_moves_cost() {
+    let (mut to_known, mut to_not_known) = (Met::default(), Met::default());
+    let mut stayed = 0;
     for seed in 1..=45 {
         let mut before = chains(&State::closed());
         replay(seed, |call, outcome, state| {
@@ -703,8 +779,9 @@ fn only_a_bind_moves_cost() {
                 (Call::Bind { w, c, x }, Ok(_)) => {
                     let to = before[usize::from(w)][usize::from(x)].expect("not free");
                     assert_ne!(to.last, (w, c), "seed {seed}, {call}");
-                    binds += 1;
-                    Some(((w, c), to))
+                    // The bind leaves the EX as it was.
+                    let ex = ex(state, w, state.end(w, x));
+                    Some(((w, c), to, matches!(ex.value, Value::Known(_))))
                 }
                 _ => None,
             };
@@ -713,10 +790,12 @@ fn only_a_bind_moves_cost() {
                     continue;
                 };
                 let expected = match bound {
-                    Some((var, to)) if before.last == var => {
-                        led_there += u32::from((w, c) != var);
-                        to_other_callers += u32::from(before.payer != to.payer);
-                        to
+                    Some((var, to, is_known)) if before.last == var => {
+                        let met = if is_known { &mut to_known } else { &mut to_not_known };
+                        met.binds += u32::from((w, c) == var);
+                        met.led_there += u32::from((w, c) != var);
+                        met.of_other_callers += u32::from(before.payer != to.payer);
+                        if is_known { before } else { to }
                     }
                     Some(_) => {
                         stayed += 1;
@@ -729,8 +808,9 @@ fn only_a_bind_moves_cost() {
             before = after;
         });
     }
-    let met = [binds, led_there, to_other_callers, stayed];
-    assert!(met.iter().all(|count| *count > 100), "{met:?}");
+    let enough = |met: &Met| met.binds.min(met.led_there).min(met.of_other_callers) > 100;
+    let met = (&to_known, &to_not_known, stayed);
+    assert!(enough(&to_known) && enough(&to_not_known) && stayed > 100, "{met:?}");
 }
 
 /// Every cell with its chain.

@@ -1,6 +1,6 @@
-// What becomes of callers (W-201): calls on states that are reached, from a start, and on states made by hand, by their names. A call is written
-// as its frame with its answer, and after it, and after a name, every cell that is not free: its worker and number, what it is, a VAL's value,
-// and last the caller of a VAR or a VAL.
+// What becomes of callers (W-201), and of a variable that is bound to a known EX (W-203): calls on states that are reached, from a start, and on states
+// made by hand, by their names. A call is written as its frame with its answer, and after it, and after a name, every cell that is not free: its worker
+// and number, what it is, a VAL's value, and last the caller of a VAR or a VAL.
 use cases_parts::ex;
 use cases_parts::idle;
 use cases_parts::live;
@@ -110,6 +110,19 @@ fn crowded() -> State {
     show(s)
 }
 
+// Two workers. Worker 0: a VAL of 6 of caller 3, exported, an EX of worker 1's VAR; worker 1: a safe EX of the VAL, known with 0, as no reached state has
+// it, a VAR of caller 255, exported, a REF to the EX.
+fn knowing() -> State {
+    io::write_all(1, b"knowing\n");
+    let mut s = put_cell(all_free(2), 0, 0, Kind::Val { n: 6, caller: 3 });
+    s = put_cell(s, 0, 1, idle(1, 0, 7));
+    s = put_cell(s, 1, 0, ex(0, 0, 5, Status::Known(0), false));
+    s = put_cell(s, 1, 1, Kind::Var { caller: 255 });
+    s = put_cell(s, 1, 2, Kind::Ref(0));
+    s = put_entry(s, 0, 0, live(0, 5));
+    show(put_entry(s, 1, 0, live(1, 7)))
+}
+
 // Two workers; an entry on which nothing is held.
 fn unsound() -> State {
     io::write_all(1, b"unsound\n");
@@ -203,9 +216,62 @@ fn refused_in_order() {
     call(s, b"0202000000000100"); // 2, 3 and 16
 }
 
+// W-203. Worker 0: an unsafe EX, of a VAR of worker 1, and an exported VAR of caller 9, which worker 1 reads.
+fn read_variable() -> State {
+    let mut s = call(all_free(0), b"0102000000000000");
+    s = call(s, b"0201000000000004");
+    s = call(s, b"0501000000000000"); // export
+    s = call(s, b"0b00000000000000");
+    s = call(s, b"0200000000000009");
+    s = call(s, b"0500010100000000"); // export
+    s = call(s, b"0b00000000000000");
+    s = call(s, b"0901010000000000"); // read
+    call(s, b"0b00000000000000") // it waits for the VAR
+}
+
+// "Refusal 8 is given only for an EX that is not known": idle, then reading. A VAR that is not exported becomes a REF. Then the EX is known.
+fn known_at_last() -> State {
+    let mut s = call(read_variable(), b"0400010000000000"); // 8
+    s = call(s, b"020000000000000a");
+    s = call(s, b"0400020000000000"); // bind
+    s = call(s, b"0900020000000000"); // read
+    s = call(s, b"0400010000000000"); // 8
+    s = call(s, b"03010000ffffffff"); // set
+    s = call(s, b"0b01000000000000");
+    call(s, b"0b01000000000000") // known
+}
+
+// "binding to a known EX makes the cell VAL with that value, exported or not": by the REF, not exported, and the exported VAR that was refused.
+fn bound_to_known() -> State {
+    let mut s = call(known_at_last(), b"020000000000000b");
+    s = call(s, b"0400030200000000"); // bind, by the REF
+    call(s, b"0400010000000000") // bind
+}
+
+// The read that waited is answered. "and names no EX": once the REF is dropped, the EX can be dropped too.
+fn answered_and_dropped() {
+    let mut s = call(bound_to_known(), b"0b00000000000000");
+    s = call(s, b"0b00000000000000");
+    s = call(s, b"0901010000000000"); // read
+    s = call(s, b"0800020000000000"); // drop of the REF
+    call(s, b"0800000000000000"); // drop
+}
+
+// An exported VAR by a REF to a safe EX that is known: "VAL with that value", whatever the chain ends in.
+fn bound_to_known_zero() {
+    let mut s = call(knowing(), b"0401010200000000"); // bind, by the REF
+    s = call(s, b"0401010000000000"); // 6
+    s = call(s, b"0900010000000000"); // read
+    s = call(s, b"0b00000000000000");
+    s = call(s, b"0b00000000000000");
+    call(s, b"0900010000000000");
+}
+
 fn main() {
     carried_and_kept();
     left_until_freed();
     of_hand_made_cells();
     refused_in_order();
+    answered_and_dropped();
+    bound_to_known_zero();
 }

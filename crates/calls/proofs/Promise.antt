@@ -1,6 +1,6 @@
--- Demand 3, that a reference keeps its context, a context its caller and a cell its payer, of the functions' own replies: whatever replies the
--- twelve calls and `step` give, so long as each meets its contract, the promise holds of the states in them. `Post` is a contract as Rattle reads it
--- from the source. Assumes nothing.
+-- Demand 3, that a reference keeps its context, a context its caller and a cell its payer, and what a bind to a known EX does, of the functions' own
+-- replies: whatever replies the twelve calls and `step` give, so long as each meets its contract, the promise holds of the states in them. `Post` is a
+-- contract as Rattle reads it from the source. Assumes nothing.
 use Prim.Native.Nat.{ℕ, zero, suc, _+_, _≤_, _<_}
 use native.Mathlib.Omega.{arith}
 use mathlib.Core.Path.{_≡_, refl, sym, ap, ap₂, subst, _∙_}
@@ -14,22 +14,23 @@ use Rattle.tables.specs.declared.Reply.{Reply}
 use Rattle.tables.specs.declared.Call.{Call}
 use Rattle.tables.specs.declared.Call.the-variants.{Start, New, Set, Bind, Export, Indirect, Transfer, Drop, ReadCell, AskWeight, Deliver, Bound}
 use Rattle.tables.specs.declared.Status.the-variants.{Reading, Known}
-use Rattle.tables.specs.declared.Kind.the-variants.{Ex}
+use Rattle.tables.specs.declared.Kind.the-variants.{Var, Val, Ex}
 use Rattle.tables.specs.declared.Outcome.the-variants.{Done}
 use Rattle.tables.specs.declared.Place.the-variants.{At}
-use Rattle.tables.specs.Machine.{Tables, eight, tables, state}
-use Rattle.tables.specs.Parts.{isFree, callerOf, exNames, isLive, entryWeight}
-use Rattle.tables.specs.Look.{cell, entry, message}
+use Rattle.tables.specs.Machine.{Tables, eight, tables}
+use Rattle.tables.specs.Parts.{isFree, callerOf, isKnown, exNames, isLive, entryWeight}
+use Rattle.tables.specs.Look.{cell, entry, endKind, message, putCell}
 use Rattle.rules.specs.Answers.{made, reply, succeeds, valueOf, checked}
 use Rattle.states.specs.Sound.{held, sound}
 use Rattle.states.specs.Chains.{EndsIn}
 use Rattle.rules.specs.Calls.{bound, B}
 use Rattle.rules.specs.Deliver.{deliver}
 use Rattle.states.specs.Machines.{Sized}
-use Rattle.rules.specs.Step.{isStart, isBind, step, drained, successes, Reached, begun, after}
+use Rattle.rules.specs.Step.{isStart, bindsUnknown, step, drained, successes, Reached, begun, after}
 use Rattle.rules.specs.Payers.{isCaller, payer, CellLeadsTo}
-use Rattle.rules.specs.Statements.{messageNames, ComesToAnEnd, holdsReady, AtRest, readOfUnbound, KnownWith, KeepsNaming, KeepsCallers, KeepsContext, KeepsPayers, MovesPayers}
+use Rattle.rules.specs.Statements.{messageNames, ComesToAnEnd, holdsReady, AtRest, readOfUnbound, KnownWith, KeepsNaming, KeepsCallers, KeepsContext, KeepsPayers, MovesPayers, TakesKnownValue}
 use Rattle.rules.proofs.Eight.{demand-3-of-eight, calls-keep-sound-of-eight}
+use Rattle.rules.proofs.KnownBind.{known-bind-is-done}
 use Rattle.quiet.proofs.start.Reads as start-contract
 use Rattle.quiet.proofs.new.Reads as new-contract
 use Rattle.quiet.proofs.set.Reads as set-contract
@@ -99,8 +100,8 @@ pub record Taken (s : State) (k : ℕ) (t : State) : Type 0 where
   pub replies : Replies s (Deliver k) answer
   pub leaves : answer .state ≡ t
 
--- what is promised of such a state: demand 3, that a reference keeps its context, a context its caller and a cell its payer, B being what `bound`
--- answers
+-- what is promised of such a state: demand 3, that a reference keeps its context, a context its caller and a cell its payer, and what a bind to a known
+-- EX does, B being what `bound` answers
 pub record Promised (s : State) : Type 0 where
   pub is-sound : sound eight (tables s) ≡ true
   pub weights : (w e : ℕ) → entryWeight (entry eight (tables s) w e) ≡ held eight (tables s) w e
@@ -129,20 +130,26 @@ pub record Promised (s : State) : Type 0 where
   pub callers-kept : (q : Call) → isStart q ≡ false → (r : Reply) → Replies s q r → KeepsCallers eight (tables s) (tables (r .state))
   pub every-cell-is-paid : (w c : ℕ) → isCaller (payer eight (tables s) w c) ≡ not (isFree (cell eight (tables s) w c))
   pub context-pays : (w c v d : ℕ) → CellLeadsTo eight (tables s) w c v d → payer eight (tables s) w c ≡ callerOf (cell eight (tables s) v d)
-  pub only-bind-moves-payers : (q : Call) → isStart q ≡ false → (r : Reply) → Replies s q r → (isBind q && succeeds (r .outcome)) ≡ false
-      → KeepsPayers eight (tables s) (tables (r .state))
-  pub bind-moves-payers : (w c x : ℕ) (r : Reply) → Replies s (Bind w c x) r → succeeds (r .outcome) ≡ true
-      → MovesPayers eight (tables s) (tables (r .state)) w c x
+  pub only-bind-moves-payers : (q : Call) → isStart q ≡ false → (r : Reply) → Replies s q r
+      → (bindsUnknown eight (tables s) q && succeeds (r .outcome)) ≡ false → KeepsPayers eight (tables s) (tables (r .state))
+  pub bind-moves-payers : (w c x : ℕ) (r : Reply) → Replies s (Bind w c x) r → isKnown (endKind eight (tables s) w x) ≡ false
+      → succeeds (r .outcome) ≡ true → MovesPayers eight (tables s) (tables (r .state)) w c x
+  pub known-bind-takes-value : (w c x o e n v caller : ℕ) (a : Bool) (r : Reply) → Replies s (Bind w c x) r → w < s .p
+      → cell eight (tables s) w c ≡ Var caller → endKind eight (tables s) w x ≡ Ex o e n (Known v) a
+      → TakesKnownValue eight (tables s) (tables (r .state)) w c v caller
 
 -- ---- replies are the rules' results
 next-is : (s : State) (q : Call) (r : Reply) → Replies s q r → tables (r .state) ≡ step eight (tables s) q .after
 next-is s q r m = ap (λ (x : Reply). tables (x .state)) (reply-is s q r m)
 
+succeeds-is : (s : State) (q : Call) (r : Reply) → Replies s q r → succeeds (r .outcome) ≡ succeeds (step eight (tables s) q .outcome)
+succeeds-is s q r m = ap (λ (x : Reply). succeeds (x .outcome)) (reply-is s q r m)
+
 pub reached-rules : (s : State) → ReachedByReplies s → Reached eight (tables s)
 unfolding step
 reached-rules s (started {s = t} p r m ok) =
     subst (Reached eight) (sym (next-is t (Start p) r m))
-    (begun p (sym (ap (λ (x : Reply). succeeds (x .outcome)) (reply-is t (Start p) r m)) ∙ ok))
+    (begun p (sym (succeeds-is t (Start p) r m) ∙ ok))
 reached-rules s (stepped {s = t} g q n r m) =
     subst (Reached eight) (sym (next-is t q r m)) (after (reached-rules t g) q n)
 
@@ -253,16 +260,27 @@ promised s g =
       every-cell-is-paid = D .every-cell-is-paid (tables s) r;
       context-pays = D .context-pays (tables s) r;
       only-bind-moves-payers =
-          λ q n x m not-bind.
-          let refused = sym (ap (λ (y : Reply). isBind q && succeeds (y .outcome)) (reply-is s q x m)) ∙ not-bind in
-          subst (KeepsPayers eight (tables s)) (sym (next-is s q x m)) (D .only-bind-moves-payers (tables s) r q n refused);
+          λ q n x m no-ref.
+          let same = sym (ap (λ (b : Bool). bindsUnknown eight (tables s) q && b) (succeeds-is s q x m)) ∙ no-ref in
+          subst (KeepsPayers eight (tables s)) (sym (next-is s q x m)) (D .only-bind-moves-payers (tables s) r q n same);
       bind-moves-payers =
-          λ w c x a m ok.
-          let done = sym (ap (λ (y : Reply). succeeds (y .outcome)) (reply-is s (Bind w c x) a m)) ∙ ok in
-          subst (λ (t : Tables). MovesPayers eight (tables s) t w c x) (sym (next-is s (Bind w c x) a m)) (D .bind-moves-payers (tables s) r w c x done);
+          λ w c x a m unknown ok.
+          subst (λ (t : Tables). MovesPayers eight (tables s) t w c x) (sym (next-is s (Bind w c x) a m))
+          (D .bind-moves-payers (tables s) r w c x unknown (sym (succeeds-is s (Bind w c x) a m) ∙ ok));
+      known-bind-takes-value =
+          λ w c x o e n v caller a y m there var known.
+          subst (λ (t : Tables). TakesKnownValue eight (tables s) t w c v caller) (sym (next-is s (Bind w c x) y m))
+          (D .known-bind-takes-value (tables s) r w c x o e n v caller a there var known);
     }
 
--- ---- and of any sound state of the machine's sizes: whatever the call, the state in its reply is sound
+-- ---- and of any sound state: a bind to a known EX is done, and its cell has the value
+pub known-bind-answered : (s : State) → sound eight (tables s) ≡ true → (w c x o e n v caller : ℕ) (a : Bool) (r : Reply) → Replies s (Bind w c x) r
+    → w < s .p → cell eight (tables s) w c ≡ Var caller → endKind eight (tables s) w x ≡ Ex o e n (Known v) a
+    → r ≡ reply (record { outcome = Done 0; after = putCell eight (tables s) w c (Val v caller) })
+known-bind-answered s h w c x o e n v caller a r m there var known =
+    reply-is s (Bind w c x) r m ∙ ap reply (known-bind-is-done eight (tables s) h w c x o e n v caller a there var known)
+
+-- and, of the machine's sizes, whatever the call, the state in its reply is sound
 pub sound-stays : (s : State) → Sized eight (tables s) → sound eight (tables s) ≡ true → (q : Call) (r : Reply) → Replies s q r
     → sound eight (tables (r .state)) ≡ true
 sound-stays s z h q r m = subst (λ (t : Tables). sound eight t ≡ true) (sym (next-is s q r m)) (calls-keep-sound-of-eight (tables s) z h q)

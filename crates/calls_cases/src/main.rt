@@ -169,6 +169,13 @@ fn tainted_var() -> State {
     put_entry(put_entry(s, 1, 0, tainted(3, 150)), 2, 0, tainted(2, 1))
 }
 
+// The base with REFs to the known EX in place of the two VARs of worker 1.
+fn known_refs() -> State {
+    let s = base();
+    io::write_all(1, b"known-refs\n");
+    put_cell(put_cell(s, 1, 3, Kind::Ref(2)), 1, 4, Kind::Ref(2))
+}
+
 // The base with an unsafe EX of worker 0 that is not exported: its owner is worker 1.
 fn owner_above() -> State {
     let s = base();
@@ -431,6 +438,14 @@ fn bind_safe() {
     s = read(s, 1, 4);
     s = drop(s, 1, 1);
     read(s, 1, 4); // x ref names the end
+}
+
+fn bind_known() {
+    let mut s = bind(base(), 1, 3, 2); // exported known
+    s = read(s, 1, 3);
+    s = bind(s, 1, 4, 2); // known
+    s = set(s, 1, 4, 1); // val
+    drop(s, 1, 2); // no ref names it
 }
 
 fn bind_own_taint() {
@@ -727,9 +742,8 @@ fn read_answers() {
     s = read(s, 0, 3); // var
     s = read(s, 1, 2); // known
     s = read(s, 2, 0); // reading
-    s = bound(s);
-    s = bind(s, 1, 4, 2);
-    read(s, 1, 4); // ref known
+    bound(s);
+    read(known_refs(), 1, 4); // ref known
 }
 
 fn read_sent() {
@@ -881,8 +895,7 @@ fn deliver_at_ref() {
 }
 
 fn deliver_at_known_ref() {
-    let mut s = bind(base(), 1, 3, 2);
-    s = read(s, 2, 2);
+    let mut s = read(known_refs(), 2, 2);
     s = deliver(s, 2); // at known ref to answer
     s = deliver(s, 2); // at known ref answer
     read(s, 2, 2); // at known ref
@@ -966,6 +979,7 @@ fn main() {
     bind_kinds();
     bind_unsafe();
     bind_safe();
+    bind_known();
     bind_own_taint();
     export_workers();
     export_cells();

@@ -8,7 +8,7 @@ ghost use Rattle.tables.specs.Parts.{entryWeight};
 ghost use Rattle.tables.specs.Look.{changed};
 ghost use Rattle.rules.specs.Answers.{made, reply};
 ghost use Rattle.rules.specs.Refusals.{entryToUse, used};
-ghost use Rattle.rules.specs.Calls.{allFree, valued, gains, keeps, sends, sendsWhole, releases, costs, B};
+ghost use Rattle.rules.specs.Calls.{allFree, valued, boundToEx, boundTo, gains, keeps, sends, sendsWhole, releases, costs, B};
 ghost use Rattle.rules.specs.Calls.{byLocation, byReference, exportEnd, transferred, dropped, readEx, readAt, askEx, askAt};
 ghost use Rattle.changes.specs.BelowCeiling.{added};
 use tables::ALL_CELLS;
@@ -179,7 +179,7 @@ pub fn replied(s: State, d: Effect) -> Reply
     }
 }
 
-// ---- new and set
+// ---- new, set and bind
 
 // A variable of this caller; of the last one, where the caller is above it: that is refused, and the answer is not used.
 pub fn variable(caller: u32) -> Kind
@@ -205,6 +205,27 @@ pub fn valued(n: u32, k: Kind) -> Kind
         Kind::Val { .. } => k,
         Kind::Ref(_) => k,
         Kind::Ex { .. } => k,
+    }
+}
+
+// What the VAR k becomes where it is bound to the end y, an EX of this status: where it is known, a VAL that keeps its caller, and else a REF.
+fn bound_to_ex(y: u8, k: Kind, st: Status) -> Kind
+    ensures { λ r. ⌜ r ≡ boundToEx y k st ⌝ }
+{
+    match st {
+        Status::Idle => Kind::Ref(y),
+        Status::Reading => Kind::Ref(y),
+        Status::Known(v) => valued(v, k),
+    }
+}
+
+// And where it is bound to the end y, which holds ex.
+pub fn bound_to(y: u8, k: Kind, ex: Kind) -> Kind
+    ensures { λ r. ⌜ r ≡ boundTo y k ex ⌝ }
+{
+    match ex {
+        Kind::Ex { status, .. } => bound_to_ex(y, k, status),
+        _ => Kind::Ref(y),
     }
 }
 

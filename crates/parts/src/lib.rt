@@ -1,6 +1,6 @@
 // Tests of one part of the state, and what it names and weighs: what a cell, an entry or a slot holds.
 ghost use mathlib.Core.Path.{_≡_};
-ghost use Rattle.tables.specs.Parts.{isFree, isVar, isVal, isEx, readingOf, isReading, isAsking, exNames, namedBy, exWeight, refNames, endFrom, isAt};
+ghost use Rattle.tables.specs.Parts.{isFree, isVar, isVal, isEx, readingOf, knownOf, isReading, isKnown, isAsking, exNames, namedBy, exWeight, refNames, endFrom, isAt};
 ghost use Rattle.tables.specs.Parts.{isUnused, isLive, isTainted, entryNames, cellOf, entryWeight, isEmpty, goesTo};
 use numbers::both;
 use tables::Holding;
@@ -69,12 +69,32 @@ fn reading_of(st: Status) -> bool
     }
 }
 
+fn known_of(st: Status) -> bool
+    ensures { λ r. ⌜ r ≡ knownOf st ⌝ }
+{
+    match st {
+        Status::Idle => false,
+        Status::Reading => false,
+        Status::Known(_) => true,
+    }
+}
+
 // An EX that is reading.
 pub fn is_reading(k: Kind) -> bool
     ensures { λ r. ⌜ r ≡ isReading k ⌝ }
 {
     match k {
         Kind::Ex { status, .. } => reading_of(status),
+        _ => false,
+    }
+}
+
+// An EX that is known.
+pub fn is_known(k: Kind) -> bool
+    ensures { λ r. ⌜ r ≡ isKnown k ⌝ }
+{
+    match k {
+        Kind::Ex { status, .. } => known_of(status),
         _ => false,
     }
 }

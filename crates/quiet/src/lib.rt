@@ -13,7 +13,6 @@ use refusals::bind_refusals;
 use refusals::cell_refusals;
 use refusals::state_refusal;
 use refusals::worker_refusals;
-use tables::Kind;
 use tables::LAST_CALLER;
 use tables::Outcome;
 use tables::Refusal;
@@ -62,7 +61,7 @@ pub fn set(s: State, w: u8, c: u8, n: u32) -> Reply
     changes::replied(s, v.answer(done))
 }
 
-// The VAR c becomes a REF to the end of x, an EX, and loses its caller.
+// The VAR c becomes a REF to the end of x, an EX, and loses its caller; where the EX is known, a VAL that keeps it.
 pub fn bind(s: State, w: u8, c: u8, x: u8) -> Reply
     ensures { λ r. ⌜ r ≡ reply (made eight (tables s) (bind eight (tables s) w c x)) ⌝ }
 {
@@ -74,7 +73,7 @@ pub fn bind(s: State, w: u8, c: u8, x: u8) -> Reply
     let exported = searches::is_exported(entries, w, c);
     let safe = lookups::is_safe(entries, w, ex);
     let v = bind_refusals(sound::is_sound(s), s.p, w, k, other, exported, safe);
-    let done = changes::with_cell(Outcome::Done(0), w, c, Kind::Ref(other.end));
+    let done = changes::with_cell(Outcome::Done(0), w, c, changes::bound_to(other.end, k, ex));
     changes::replied(s, v.answer(done))
 }
 

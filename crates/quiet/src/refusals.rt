@@ -6,6 +6,7 @@ ghost use Rattle.quiet.specs.declared.verdict.Verdict.the-variants.{Go};
 ghost use Rattle.quiet.specs.Verdicts.{along};
 use super::verdict::Verdict;
 use lookups::Seen;
+use numbers::both;
 use tables::Kind;
 use tables::Refusal;
 
@@ -30,7 +31,7 @@ pub fn cell_refusals(sound: bool, p: u8, w: u8, k: Kind) -> Verdict
     worker_refusals(sound, p, w).refuse_if(parts::is_free(k), Refusal::NoCell)
 }
 
-// What bind tests of k, what c holds, and of x and its end; of c whether it has a live entry, and of the EX whether it is safe.
+// What bind tests of k, what c holds, and of x and its end; of c whether it has a live entry, and of an EX that is not known whether it is safe.
 pub fn bind_refusals(
     sound: bool,
     p: u8,
@@ -48,5 +49,8 @@ pub fn bind_refusals(
         .refuse_if(parts::is_free(other), Refusal::NoCell)
         .refuse_if(!parts::is_var(k), Refusal::WrongKind)
         .refuse_if(!parts::is_ex(ex), Refusal::WrongKind)
-        .refuse_if(numbers::both(exported, !safe), Refusal::Unsafe)
+        .refuse_if(
+            both(!parts::is_known(ex), both(exported, !safe)),
+            Refusal::Unsafe,
+        )
 }

@@ -1,9 +1,9 @@
--- The numbered cases, the printed run, the wrong turnings and the callers, computed of the rules themselves, the soundness test of every call run with
--- them. Assumes nothing.
+-- The numbered cases, the printed run, the wrong turnings, the callers and the known EX, computed of the rules themselves, the soundness test of every
+-- call run with them. Assumes nothing.
 use mathlib.Core.Path.{_≡_, refl}
 use mathlib.Core.Bool.{true}
 use mathlib.Core.List.{[], _∷_}
-use Rattle.rules.specs.Cases.{hold, numberedCases, wrongTurnings, callers, wholeRun}
+use Rattle.rules.specs.Cases.{hold, numberedCases, wrongTurnings, callers, knownBind, wholeRun}
 
 -- K1 to K10, the whole table
 pub numbered-cases : hold numberedCases ≡ true
@@ -22,3 +22,7 @@ wrong-turnings = refl
 pub callers-carried : hold (callers ∷ []) ≡ true
 unfolding hold
 callers-carried = refl
+
+pub bound-when-known : hold (knownBind ∷ []) ≡ true
+unfolding hold
+bound-when-known = refl

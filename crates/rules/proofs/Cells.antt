@@ -1,9 +1,9 @@
 -- What a call may make of a cell: it looks the same to others, is freed, is a new VAR of a caller up to 255 or a new EX, has its value, or is bound,
--- which a bind alone does. So what a cell names, and its caller, is kept. Assumes nothing.
+-- which a bind to an EX that is not known alone does. So what a cell names, and its caller, is kept. Assumes nothing.
 use Prim.Native.Nat.{ℕ, _-_, _+_, _<_}
 use native.Mathlib.Omega.{arith}
 use mathlib.Core.Path.{_≡_, refl, sym, ap, subst, _∙_}
-use mathlib.Core.Bool.{Bool, true, false, _&&_, _||_, cond}
+use mathlib.Core.Bool.{Bool, true, false, _&&_, _||_, not, cond}
 use mathlib.Core.List.{List}
 use mathlib.Core.Logic.{_⊎_, inl, inr}
 use lib.Dec.{eqb, ltb}
@@ -23,7 +23,7 @@ use Rattle.tables.specs.declared.Effect.{Effect}
 use Rattle.tables.specs.declared.Call.{Call}
 use Rattle.tables.specs.declared.Call.the-variants.{Start, New, Set, Bind, Export, Indirect, Transfer, Drop, ReadCell, AskWeight, Deliver, Bound}
 use Rattle.tables.specs.Machine.{Machine, Tables}
-use Rattle.tables.specs.Parts.{onEx, isFree, isVar, isVal, hasCaller, callerOf, isEx, exNames}
+use Rattle.tables.specs.Parts.{onEx, isFree, isVar, isVal, hasCaller, callerOf, isEx, isKnown, exNames}
 use Rattle.tables.specs.Look.{cell, entry, end, endKind, exNaming, lowestFreeCell, lowestEmptySlot, message, putCell, putEntry, putMessage, changed}
 use Rattle.states.specs.Machines.{Laws, Sized}
 use Rattle.states.specs.Move.{shown}
@@ -34,22 +34,22 @@ use Rattle.states.proofs.Stored.{Stored, stored-each}
 use Rattle.states.proofs.Next.{cell-stored}
 use Rattle.states.proofs.Moves.{cellMove, cell-placed, put-cell}
 use Rattle.rules.specs.Answers.{Check, done, succeeds, checked}
-use Rattle.rules.specs.Calls.{valued, byLocation, byReference, dropped, readAt, askAt, new, set, bind, export, indirect, transfer, drop, read, ask, bound}
+use Rattle.rules.specs.Calls.{valued, boundCell, byLocation, byReference, dropped, readAt, askAt, new, set, bind, export, indirect, transfer, drop, read, ask, bound}
 use Rattle.rules.specs.Deliver.{joined, arrivalCell, deliverHome, deliverAway, deliverRelease, deliverRead, deliverAnswer, deliverSupply, deliverAsk, deliverMessage, deliver}
 use Rattle.rules.specs.Refusals.{used, newRefusals, setRefusals, bindRefusals, exportRefusals, indirectRefusals, transferRefusals, dropRefusals, readRefusals, askRefusals, deliverRefusals, boundRefusals}
 use Rattle.rules.specs.Order.{Passed}
 use Rattle.rules.specs.Payers.{isCaller}
-use Rattle.rules.specs.Step.{isStart, binds, step}
-use Rattle.rules.proofs.Steps.{checked-is, free-is, var-is, not-false}
+use Rattle.rules.specs.Step.{isStart, makesRef, step}
+use Rattle.rules.proofs.Steps.{checked-is, free-is, BindGives, a-value, a-ref, bind-gives}
 
--- what a cell that held k₀ may hold then
-pub data Becomes (by-bind : Bool) (k₀ k : Kind) : Type 0 where
-  looks-same : shown k ≡ shown k₀ → Becomes by-bind k₀ k
-  freed : k ≡ Free → Becomes by-bind k₀ k
-  new-var : (caller : ℕ) → k₀ ≡ Free → isCaller caller ≡ true → k ≡ Var caller → Becomes by-bind k₀ k
-  new-ex : k₀ ≡ Free → isEx k ≡ true → Becomes by-bind k₀ k
-  has-value : (v caller : ℕ) → k₀ ≡ Var caller → k ≡ Val v caller → Becomes by-bind k₀ k
-  is-bound : (y caller : ℕ) → by-bind ≡ true → k₀ ≡ Var caller → k ≡ Ref y → Becomes by-bind k₀ k
+-- what a cell that held k₀ may hold then; refs: the call makes a REF
+pub data Becomes (refs : Bool) (k₀ k : Kind) : Type 0 where
+  looks-same : shown k ≡ shown k₀ → Becomes refs k₀ k
+  freed : k ≡ Free → Becomes refs k₀ k
+  new-var : (caller : ℕ) → k₀ ≡ Free → isCaller caller ≡ true → k ≡ Var caller → Becomes refs k₀ k
+  new-ex : k₀ ≡ Free → isEx k ≡ true → Becomes refs k₀ k
+  has-value : (v caller : ℕ) → k₀ ≡ Var caller → k ≡ Val v caller → Becomes refs k₀ k
+  is-bound : (y caller : ℕ) → refs ≡ true → k₀ ≡ Var caller → k ≡ Ref y → Becomes refs k₀ k
 
 -- an EX whose weight and marks alone change looks the same, and so does any other cell, which stays
 looks-on : (g : ℕ → ℕ → ℕ → Status → Bool → Kind) → ((o e n : ℕ) (st : Status) (a : Bool) → shown (g o e n st a) ≡ Ex o e 0 Idle false)
@@ -141,7 +141,7 @@ changed-leaves 𝓜 s (OfEntryAndSlot w e x i m) = inl (put-cells 𝓜 s w e x)
 module _ (𝓜 : Machine) (L : Laws 𝓜) (s : Tables) (z : Sized 𝓜 s) where
   -- a call puts into a cell what it may
   abbrev CallPuts : Bool → Effect → Type 0
-  CallPuts by-bind d = Puts 𝓜 L s z (Becomes by-bind) (d .change)
+  CallPuts refs d = Puts 𝓜 L s z (Becomes refs) (d .change)
 
   -- the lowest free cell is free, where it is one
   lowest-free : (w : ℕ) → lowestFreeCell 𝓜 s w < 𝓜 .cells → cell 𝓜 s w (lowestFreeCell 𝓜 s w) ≡ Free
@@ -165,12 +165,16 @@ module _ (𝓜 : Machine) (L : Laws 𝓜) (s : Tables) (z : Sized 𝓜 s) where
       go (Ref d) = looks-same refl
       go (Ex o e m st a) = looks-same refl
 
-  -- a bind binds where it is not refused
-  bind-puts : (w c x : ℕ) → CallPuts (succeeds (bind 𝓜 s w c x .outcome)) (bind 𝓜 s w c x)
+  -- a bind makes a REF where it is not refused and the EX is not known, and else a value
+  bind-puts : (w c x : ℕ) → CallPuts (not (isKnown (endKind 𝓜 s w x)) && succeeds (bind 𝓜 s w c x .outcome)) (bind 𝓜 s w c x)
   unfolding bind
   bind-puts w c x =
-      checked-is (λ d. CallPuts (succeeds (d .outcome)) d) (bindRefusals 𝓜 s w c x) (done 0 (OfCell w c (Ref (end 𝓜 s w x)))) (λ why. tt)
-      (λ p less. let q = var-is (cell 𝓜 s w c) (not-false (search)) in is-bound (end 𝓜 s w x) (q .0) refl (q .1) refl)
+      checked-is (λ d. CallPuts (not (isKnown (endKind 𝓜 s w x)) && succeeds (d .outcome)) d) (bindRefusals 𝓜 s w c x)
+      (done 0 (OfCell w c (boundCell 𝓜 s w c x))) (λ why. tt) (λ p less. go (bind-gives 𝓜 s w c x p))
+    where
+      go : BindGives 𝓜 s w c x → Becomes (not (isKnown (endKind 𝓜 s w x)) && true) (cell 𝓜 s w c) (boundCell 𝓜 s w c x)
+      go (a-value v caller known q t) = has-value v caller q t
+      go (a-ref caller unknown q ex guarded t) = is-bound (end 𝓜 s w x) caller (ap (λ (b : Bool). not b && true) unknown) q t
 
   export-puts : (w c to : ℕ) → CallPuts false (export 𝓜 s w c to)
   unfolding export endKind
@@ -251,15 +255,16 @@ module _ (𝓜 : Machine) (L : Laws 𝓜) (s : Tables) (z : Sized 𝓜 s) where
   message-puts k (Supply a c w) = λ less. looks-same (looks-on (λ o e n st b. Ex o e (n + w) st false) (λ o e n st b. refl) (cell 𝓜 s a c))
 
   -- every cell
-  each : (by-bind : Bool) (d : Effect) → CallPuts by-bind d → (w c : ℕ) → Becomes by-bind (cell 𝓜 s w c) (cell 𝓜 (changed 𝓜 s (d .change)) w c)
-  each by-bind d p = changed-each 𝓜 L s z (Becomes by-bind) (λ k. looks-same refl) (d .change) p
+  each : (refs : Bool) (d : Effect) → CallPuts refs d → (w c : ℕ) → Becomes refs (cell 𝓜 s w c) (cell 𝓜 (changed 𝓜 s (d .change)) w c)
+  each refs d p = changed-each 𝓜 L s z (Becomes refs) (λ k. looks-same refl) (d .change) p
 
-  pub step-becomes : (q : Call) → isStart q ≡ false → (w c : ℕ) → Becomes (binds 𝓜 s q) (cell 𝓜 s w c) (cell 𝓜 (step 𝓜 s q .after) w c)
+  pub step-becomes : (q : Call) → isStart q ≡ false → (w c : ℕ) → Becomes (makesRef 𝓜 s q) (cell 𝓜 s w c) (cell 𝓜 (step 𝓜 s q .after) w c)
   unfolding step indirect transfer deliver bound
   step-becomes (Start p) n = absurd-bool refl n
   step-becomes (New w caller) n = each false (new 𝓜 s w caller) (new-puts w caller)
   step-becomes (Set w c v) n = each false (set 𝓜 s w c v) (set-puts w c v)
-  step-becomes (Bind w c x) n = each (succeeds (bind 𝓜 s w c x .outcome)) (bind 𝓜 s w c x) (bind-puts w c x)
+  step-becomes (Bind w c x) n =
+      each (not (isKnown (endKind 𝓜 s w x)) && succeeds (bind 𝓜 s w c x .outcome)) (bind 𝓜 s w c x) (bind-puts w c x)
   step-becomes (Export w c to) n = each false (export 𝓜 s w c to) (export-puts w c to)
   step-becomes (Indirect w c to) n = each false (indirect 𝓜 s w c to) (puts-checked 𝓜 L s z (Becomes false) (indirectRefusals 𝓜 s w c to) _ (λ p. tt))
   step-becomes (Transfer w c to) n =

@@ -15,5 +15,6 @@ pub mod Context
 -- Demand 3, for every machine, and at document 01's sizes.
 pub mod Chains
 pub mod Payers
+pub mod KnownBind
 pub mod Whole
 pub mod Eight

@@ -2,7 +2,7 @@
 use Prim.Native.Nat.{ℕ, _+_, _<_, _≤_}
 use native.Mathlib.Omega.{arith}
 use mathlib.Core.Path.{_≡_, refl, sym, ap, subst, _∙_}
-use mathlib.Core.Bool.{Bool, true, false, _&&_, not, cond}
+use mathlib.Core.Bool.{Bool, true, false, _&&_, cond}
 use mathlib.Core.Logic.{_⊎_, inl, inr}
 use lib.Dec.{eqb, leb}
 use borrow.Author.Tests.{leb-false}
@@ -16,11 +16,11 @@ use Rattle.tables.specs.declared.Message.the-variants.{Empty, Reference, Releas
 use Rattle.tables.specs.declared.Change.the-variants.{OfCell}
 use Rattle.tables.specs.Machine.{Machine, Tables}
 use Rattle.tables.specs.Parts.{readingOf, isFree, isEx, isReading, isAsking, goesTo}
-use Rattle.tables.specs.Look.{cell, entry, end, endKind, safe, exported, busy, lowestFreeCell, lowestEmptySlot, booked, freeCells, message, putCell, putMessage, changed}
+use Rattle.tables.specs.Look.{cell, end, endKind, safe, exported, busy, lowestFreeCell, lowestEmptySlot, booked, freeCells, message, putCell, putMessage, changed}
 use Rattle.rules.specs.Answers.{done, made}
 use Rattle.states.specs.Sound.{readsFor, asksFor, cellHolds, messageHolds}
 use Rattle.rules.specs.Refusals.{newRefusals, setRefusals, bindRefusals, transferRefusals, dropRefusals}
-use Rattle.rules.specs.Calls.{valued, transferred, dropped, new, set, bind, transfer, drop}
+use Rattle.rules.specs.Calls.{valued, boundCell, transferred, dropped, new, set, bind, transfer, drop}
 use Rattle.states.specs.Machines.{Laws}
 use Rattle.states.specs.Facts.{CellFact, MessageFact, ReadAhead, AnswerFact, Facts, KnownFact}
 use Rattle.states.proofs.Inside.{cell-inside}
@@ -30,7 +30,7 @@ use Rattle.states.proofs.Derived.{cell-fact}
 use Rattle.states.specs.Move.{next, VarBecomes, stays, bound, ReferenceGoes, Makes}
 use Rattle.states.proofs.Next.{cell-stored}
 use Rattle.states.proofs.Moves.{cellMove, CellMoves, cell-placed, stores-cell, stores-cell-message}
-use Rattle.rules.proofs.Steps.{makes-checked, not-false, var-is, zero-cond, free-cell, empty-slot, has-room, room-sent, room-same, free-not-busy, makes-by, mark-cond}
+use Rattle.rules.proofs.Steps.{makes-checked, not-false, var-is, BindGives, a-value, a-ref, bind-gives, zero-cond, free-cell, empty-slot, has-room, room-sent, room-same, free-not-busy, makes-by, mark-cond}
 
 -- a message that carries the weight n of the entry e of worker o, and is no Read, Answer, Ask or Supply
 pub record Sends (𝓜 : Machine) (s : Tables) (o e n : ℕ) (m : Message) : Type 0 where
@@ -124,6 +124,11 @@ module _ (𝓜 : Machine) (L : Laws 𝓜) (s : Tables) (F : Facts 𝓜 s) where
         room = λ v. rw nf (omega (arith, F .room v));
       }
 
+  -- a value, with the caller that it has
+  value-makes : (w c n caller : ℕ) → w < s .p → cell 𝓜 s w c ≡ Var caller → Makes 𝓜 s (putCell 𝓜 s w c (Val n caller))
+  value-makes w c n caller u q =
+      cell-makes w c (Var caller) (Val n caller) (var-moves w c caller (Val n caller) q u (λ x. stays refl) refl refl) (λ t. tt)
+
   pub set-makes : (w c n : ℕ) → Makes 𝓜 s (made 𝓜 s (set 𝓜 s w c n) .after)
   unfolding set
   set-makes w c n =
@@ -131,33 +136,27 @@ module _ (𝓜 : Machine) (L : Laws 𝓜) (s : Tables) (F : Facts 𝓜 s) where
       (λ p.
       let u = worker-used w (search) in
       let q = var-is (cell 𝓜 s w c) (not-false (search)) in
-      let k = valued n (Var (q .0)) in
-      rw (q .1) (cell-makes w c (Var (q .0)) k (var-moves w c (q .0) k (q .1) (u .0) (λ x. stays refl) refl refl) (λ t. tt)))
+      rw (q .1) (value-makes w c n (q .0) (u .0) (q .1)))
+
+  -- a REF to an EX, a safe one where the VAR is exported
+  ref-makes : (w c y caller : ℕ) → w < s .p → cell 𝓜 s w c ≡ Var caller → isEx (cell 𝓜 s w y) ≡ true
+      → (exported 𝓜 s w c ≡ true → safe 𝓜 s w (cell 𝓜 s w y) ≡ true) → Makes 𝓜 s (putCell 𝓜 s w c (Ref y))
+  ref-makes w c y caller u q ex guarded =
+      let inside = cell-inside 𝓜 s w c (ap isFree q) in
+      let h = cellMove 𝓜 s w c (Var caller) (Ref y) 0 (message s 0) (message s 0) in
+      let stored = cell-stored 𝓜 s h (F .sized) (cell-placed 𝓜 L s (inside .0) (inside .1) (L .slots-some) q refl) in
+      let still-ex = ap isEx (stored .there w y (λ a b. absurd-bool ex (ap isEx (ap (cell 𝓜 s w) (sym b) ∙ q)))) ∙ ex in
+      cell-makes w c (Var caller) (Ref y) (var-moves w c caller (Ref y) q (u, still-ex) (λ e. bound y refl (guarded e)) refl refl) (λ t. tt)
 
   pub bind-makes : (w c x : ℕ) → Makes 𝓜 s (made 𝓜 s (bind 𝓜 s w c x) .after)
   unfolding bind endKind
   bind-makes w c x =
-      let y = end 𝓜 s w x in
-      makes-checked 𝓜 s (bindRefusals 𝓜 s w c x) (done 0 (OfCell w c (Ref y)))
-      (λ p.
-      let u = worker-used w (search) in
-      let q = var-is (cell 𝓜 s w c) (not-false (search)) in
-      let ex : isEx (cell 𝓜 s w y) ≡ true = not-false (search) in
-      let guarded : (exported 𝓜 s w c && not (safe 𝓜 s w (cell 𝓜 s w y))) ≡ false = search in
-      cell-makes w c (Var (q .0)) (Ref y)
-      (var-moves w c (q .0) (Ref y) (q .1) (u .0, ref-ex (q .0) (q .1) ex)
-      (λ e. bound y refl (not-false (rw e at guarded)))
-      refl refl)
-      (λ t. tt))
+      makes-checked 𝓜 s (bindRefusals 𝓜 s w c x) (done 0 (OfCell w c (boundCell 𝓜 s w c x)))
+      (λ p. let u = worker-used w (search) in go (u .0) (bind-gives 𝓜 s w c x p))
     where
-      ref-ex : (caller : ℕ) → cell 𝓜 s w c ≡ Var caller → isEx (cell 𝓜 s w (end 𝓜 s w x)) ≡ true
-          → isEx (cell 𝓜 (next 𝓜 s (cellMove 𝓜 s w c (Var caller) (Ref (end 𝓜 s w x)) 0 (message s 0) (message s 0))) w (end 𝓜 s w x)) ≡ true
-      ref-ex caller q ex =
-          let inside = cell-inside 𝓜 s w c (ap isFree q) in
-          let y = end 𝓜 s w x in
-          let h = cellMove 𝓜 s w c (Var caller) (Ref y) 0 (message s 0) (message s 0) in
-          let stored = cell-stored 𝓜 s h (F .sized) (cell-placed 𝓜 L s (inside .0) (inside .1) (L .slots-some) q refl) in
-          ap isEx (stored .there w y (λ a b. absurd-bool ex (ap isEx (ap (cell 𝓜 s w) (sym b) ∙ q)))) ∙ ex
+      go : w < s .p → BindGives 𝓜 s w c x → Makes 𝓜 s (putCell 𝓜 s w c (boundCell 𝓜 s w c x))
+      go u (a-value v caller known q t) = rw t (value-makes w c v caller u q)
+      go u (a-ref caller unknown q ex guarded t) = rw t (ref-makes w c (end 𝓜 s w x) caller u q ex guarded)
 
   -- ---- a cell that is not busy is freed, its weight, if it has one, going into the slot i
   pub record Frees (w c : ℕ) (k₀ : Kind) (i : ℕ) (m₀ m : Message) : Type 0 where

@@ -1,11 +1,11 @@
--- Who pays: every cell that is not free leads to a context, whose caller pays; no call but bind changes who pays for what stays; and a bind
--- changes it for what leads to its cell alone. Assumes nothing.
+-- Who pays: every cell that is not free leads to a context, whose caller pays; no call but a bind to an EX that is not known changes who pays for what
+-- stays; and it changes it for what leads to its cell alone. Assumes nothing.
 use Prim.Native.Nat.{ℕ, zero, suc, _+_, _-_, _≤_, _<_}
 use native.Mathlib.Omega.{arith}
 use native.Mathlib.Numerals.{add-one}
 use native.Mathlib.Nat.{add-suc}
 use mathlib.Core.Path.{_≡_, refl, sym, ap, ap₂, subst, _∙_}
-use mathlib.Core.Bool.{true, false, _&&_, _||_, not}
+use mathlib.Core.Bool.{true, false, _||_, not}
 use mathlib.Core.Logic.{⊎-elim}
 use borrow.Author.Tests.{eq-eqb}
 use Rattle.numbers.specs.Tests.{absurd-bool, or-else}
@@ -18,7 +18,7 @@ use Rattle.tables.specs.declared.Place.the-variants.{Nowhere, At}
 use Rattle.tables.specs.declared.Change.the-variants.{OfCell}
 use Rattle.tables.specs.declared.Call.the-variants.{Bind}
 use Rattle.tables.specs.Machine.{Machine, Tables}
-use Rattle.tables.specs.Parts.{isFree, isVar, isVal, callerOf, isEx, exNames, namedBy, endFrom, isLive, entryNames, cellOf}
+use Rattle.tables.specs.Parts.{isFree, isVar, isVal, callerOf, isEx, isKnown, exNames, namedBy, endFrom, isLive, entryNames, cellOf}
 use Rattle.tables.specs.Look.{cell, entry, end, endKind, safe, exported, liveEntries, putCell, changed}
 use Rattle.states.specs.Machines.{Laws}
 use Rattle.states.specs.Chains.{entryEnd, follow, ahead, LeadsTo}
@@ -36,11 +36,11 @@ use Rattle.states.proofs.Rank.{safe-ex}
 use Rattle.states.proofs.Count.{standing-live, comes-to-end}
 use Rattle.rules.specs.Answers.{done, succeeds}
 use Rattle.rules.specs.Refusals.{bindRefusals}
-use Rattle.rules.specs.Calls.{bind}
+use Rattle.rules.specs.Calls.{boundCell, bind}
 use Rattle.rules.specs.Step.{step}
 use Rattle.rules.specs.Payers.{isCaller, paysFrom, payer, CellLeadsTo, itself, along}
 use Rattle.rules.specs.Statements.{ComesToAnEnd, KeepsPayers, MovesPayers}
-use Rattle.rules.proofs.Steps.{checked-is, not-false, free-is, var-is}
+use Rattle.rules.proofs.Steps.{checked-is, free-is, BindGives, a-value, a-ref, bind-gives}
 use Rattle.rules.proofs.Cells.{Becomes, looks-same, freed, new-var, new-ex, has-value, is-bound, CallerFact, put-stored, put-entries, Leaves}
 
 -- ---- one reference after the other
@@ -414,15 +414,15 @@ module _ (𝓜 : Machine) (L : Laws 𝓜) (s : Tables) (I : Invariant 𝓜 s) (w
           (ap (paysFrom 𝓜 bound-tables n) same
           ∙ apart-pays 𝓜 s bound-tables w c context entries elsewhere n (endKind 𝓜 s v d) (λ o e q l. apart (along o e q l)))
 
--- a bind that is not refused
-pub bind-moves-payers : (𝓜 : Machine) (L : Laws 𝓜) (s : Tables) → Invariant 𝓜 s → (w c x : ℕ) → Invariant 𝓜 (step 𝓜 s (Bind w c x) .after)
-    → succeeds (step 𝓜 s (Bind w c x) .outcome) ≡ true → MovesPayers 𝓜 s (step 𝓜 s (Bind w c x) .after) w c x
+-- a bind that is not refused, to an EX that is not known
+pub bind-moves-payers : (𝓜 : Machine) (L : Laws 𝓜) (s : Tables) → Invariant 𝓜 s → (w c x : ℕ) → isKnown (endKind 𝓜 s w x) ≡ false
+    → Invariant 𝓜 (step 𝓜 s (Bind w c x) .after) → succeeds (step 𝓜 s (Bind w c x) .outcome) ≡ true → MovesPayers 𝓜 s (step 𝓜 s (Bind w c x) .after) w c x
 unfolding step bind bound-tables
-bind-moves-payers 𝓜 L s I w c x =
+bind-moves-payers 𝓜 L s I w c x unknown =
     checked-is (λ d. Invariant 𝓜 (changed 𝓜 s (d .change)) → succeeds (d .outcome) ≡ true → MovesPayers 𝓜 s (changed 𝓜 s (d .change)) w c x)
-    (bindRefusals 𝓜 s w c x) (done 0 (OfCell w c (Ref (end 𝓜 s w x))))
-    (λ why J ok. absurd-bool ok refl)
-    (λ p J ok.
-    let var = var-is (cell 𝓜 s w c) (not-false (search)) in
-    let guarded : (exported 𝓜 s w c && not (safe 𝓜 s w (endKind 𝓜 s w x))) ≡ false = search in
-    bind-moves 𝓜 L s I w c x (var .0) (var .1) (not-false (search)) (λ e. not-false (rw e at guarded)) J)
+    (bindRefusals 𝓜 s w c x) (done 0 (OfCell w c (boundCell 𝓜 s w c x)))
+    (λ why J ok. absurd-bool ok refl) (λ p J ok. go (bind-gives 𝓜 s w c x p) J)
+  where
+    go : BindGives 𝓜 s w c x → Invariant 𝓜 (putCell 𝓜 s w c (boundCell 𝓜 s w c x)) → MovesPayers 𝓜 s (putCell 𝓜 s w c (boundCell 𝓜 s w c x)) w c x
+    go (a-value v caller known q t) = absurd-bool known unknown
+    go (a-ref caller u q ex guarded t) = rw t (bind-moves 𝓜 L s I w c x caller q ex guarded)

@@ -1,15 +1,17 @@
--- What the proofs of single calls share: the refusals that a call has passed, what a search found, room for what is sent, and a store
--- that a call makes. Assumes nothing.
+-- What the proofs of single calls share: the refusals that a call has passed, what a bind makes of its cell, what a search found, room for what is
+-- sent, and a store that a call makes. Assumes nothing.
 use Prim.Native.Nat.{ℕ, _+_, _<_, _≤_}
 use native.Mathlib.Omega.{arith}
 use mathlib.Core.Path.{_≡_, refl, ap, subst}
-use mathlib.Core.Bool.{Bool, true, false, not, cond}
+use mathlib.Core.Bool.{Bool, true, false, _&&_, not, cond}
 use mathlib.Core.List.{List, [], _∷_}
 use lib.Dec.{eqb, leb}
 use borrow.Author.Tests.{ltb-true, leb-false, eqb-true}
 use Rattle.numbers.specs.Below.{bit, lowest}
 use Rattle.numbers.specs.Tests.{absurd-bool}
 use Rattle.numbers.specs.BelowLaws.{sum-some, some-of, lowest-at}
+use Rattle.tables.specs.declared.Status.{Status}
+use Rattle.tables.specs.declared.Status.the-variants.{Idle, Reading, Known}
 use Rattle.tables.specs.declared.Kind.{Kind}
 use Rattle.tables.specs.declared.Kind.the-variants.{Free, Var, Val, Ref, Ex}
 use Rattle.tables.specs.declared.Holding.{Holding}
@@ -20,13 +22,15 @@ use Rattle.tables.specs.declared.Refusal.{Refusal}
 use Rattle.tables.specs.declared.Outcome.the-variants.{Refused}
 use Rattle.tables.specs.declared.Effect.{Effect}
 use Rattle.tables.specs.Machine.{Machine, Tables}
-use Rattle.tables.specs.Parts.{isFree, isVar, isEx, isReading, isAsking, isUnused, isEmpty, goesTo}
-use Rattle.tables.specs.Look.{cell, entry, entryOf, exported, referred, busy, lowestFreeCell, lowestFreeEntry, lowestEmptySlot, booked, freeCells, message, changed}
+use Rattle.tables.specs.Parts.{isFree, isVar, isEx, isReading, isKnown, isAsking, isUnused, isEmpty, goesTo}
+use Rattle.tables.specs.Look.{cell, entry, end, endKind, safe, entryOf, exported, referred, busy, lowestFreeCell, lowestFreeEntry, lowestEmptySlot, booked, freeCells, message, changed}
 use Rattle.rules.specs.Answers.{Check, _when_, answered, refuse, checked}
+use Rattle.rules.specs.Refusals.{bindRefusals}
+use Rattle.rules.specs.Calls.{valued, boundCell}
 use Rattle.rules.specs.Order.{Passed}
 use Rattle.states.specs.Machines.{Laws}
 use Rattle.states.specs.Facts.{Facts}
-use Rattle.states.proofs.Named.{the-entry-of}
+use Rattle.states.proofs.Named.{the-ex, the-entry-of}
 use Rattle.states.proofs.Busy.{own-entry, naming-ref, not-busy}
 use Rattle.states.proofs.Derived.{bit-one, live-fact, cell-fact}
 use Rattle.states.specs.Move.{ReadsOn, TrueValues, Carries, Makes, nothing, moved}
@@ -78,6 +82,27 @@ empty-is (Read r c o e) t = absurd-bool t refl
 empty-is (Answer r c n) t = absurd-bool t refl
 empty-is (Ask a c o e) t = absurd-bool t refl
 empty-is (Supply a c n) t = absurd-bool t refl
+
+-- ---- what a bind that is not refused makes of its VAR: where the EX is known, a VAL of the VAR's own caller, and else a REF to the EX, which is safe
+-- where the VAR is exported
+pub data BindGives (𝓜 : Machine) (s : Tables) (w c x : ℕ) : Type 0 where
+  a-value : (v caller : ℕ) → isKnown (endKind 𝓜 s w x) ≡ true → cell 𝓜 s w c ≡ Var caller → boundCell 𝓜 s w c x ≡ Val v caller → BindGives 𝓜 s w c x
+  a-ref : (caller : ℕ) → isKnown (endKind 𝓜 s w x) ≡ false → cell 𝓜 s w c ≡ Var caller → isEx (endKind 𝓜 s w x) ≡ true
+      → (exported 𝓜 s w c ≡ true → safe 𝓜 s w (endKind 𝓜 s w x) ≡ true) → boundCell 𝓜 s w c x ≡ Ref (end 𝓜 s w x) → BindGives 𝓜 s w c x
+
+pub bind-gives : (𝓜 : Machine) (s : Tables) (w c x : ℕ) → Passed (bindRefusals 𝓜 s w c x) → BindGives 𝓜 s w c x
+bind-gives 𝓜 s w c x p =
+    let var = var-is (cell 𝓜 s w c) (not-false (search)) in
+    let y = the-ex (endKind 𝓜 s w x) (not-false (search)) in
+    go (y .owner) (y .entry) (y .weight) (y .status) (y .asking) (y .is) (var .0) (var .1) (search)
+  where
+    go : (o e n : ℕ) (st : Status) (a : Bool) → endKind 𝓜 s w x ≡ Ex o e n st a → (caller : ℕ) → cell 𝓜 s w c ≡ Var caller
+        → (not (isKnown (endKind 𝓜 s w x)) && (exported 𝓜 s w c && not (safe 𝓜 s w (endKind 𝓜 s w x)))) ≡ false → BindGives 𝓜 s w c x
+    go o e n Idle a i caller q guarded =
+        a-ref caller (ap isKnown i) q (ap isEx i) (λ exp. not-false (rw (ap isKnown i, exp) at guarded)) (rw i refl)
+    go o e n Reading a i caller q guarded =
+        a-ref caller (ap isKnown i) q (ap isEx i) (λ exp. not-false (rw (ap isKnown i, exp) at guarded)) (rw i refl)
+    go o e n (Known v) a i caller q guarded = a-value v caller (ap isKnown i) q (rw i (ap (valued v) q))
 
 -- ---- choices by a test of place
 pub cond-add : (t : Bool) (a b n : ℕ) → a + b ≡ n → cond t a 0 + cond t b 0 ≡ cond t n 0

@@ -2,7 +2,7 @@
 use Prim.Native.Nat.{ℕ, zero, suc, _+_, _≤_, _<_}
 use native.Mathlib.Omega.{arith}
 use mathlib.Core.Path.{_≡_, refl, sym, ap, subst, _∙_}
-use mathlib.Core.Bool.{Bool, true, false, _&&_, not, cond}
+use mathlib.Core.Bool.{Bool, true, false, _&&_, _||_, not, cond}
 use mathlib.Core.List.{List, [], _∷_}
 use mathlib.Core.Logic.{_⊎_, inl, inr, ⊎-elim}
 use lib.Dec.{eqb}
@@ -14,7 +14,7 @@ use Rattle.tables.specs.declared.Slot.{Slot}
 use Rattle.tables.specs.declared.Status.{Status}
 use Rattle.tables.specs.declared.Status.the-variants.{Idle, Reading, Known}
 use Rattle.tables.specs.declared.Kind.{Kind}
-use Rattle.tables.specs.declared.Kind.the-variants.{Ex}
+use Rattle.tables.specs.declared.Kind.the-variants.{Val, Ex}
 use Rattle.tables.specs.declared.Holding.{Holding}
 use Rattle.tables.specs.declared.Holding.the-variants.{Unused, Live}
 use Rattle.tables.specs.declared.Message.{Message}
@@ -25,27 +25,29 @@ use Rattle.tables.specs.declared.Call.{Call}
 use Rattle.tables.specs.declared.Call.the-variants.{Start, New, Set, Bind, Export, Indirect, Transfer, Drop, ReadCell, AskWeight, Deliver, Bound}
 use Rattle.tables.specs.declared.Effect.{Effect}
 use Rattle.tables.specs.Machine.{Machine, Tables}
-use Rattle.tables.specs.Parts.{isReading, namedBy, isLive, entryWeight, isEmpty}
-use Rattle.tables.specs.Look.{cell, entry, message, changed}
-use Rattle.rules.specs.Answers.{answered, made, succeeds, checked}
+use Rattle.tables.specs.Parts.{isFree, isVar, isVal, callerOf, isReading, namedBy, isLive, entryWeight, isEmpty}
+use Rattle.tables.specs.Look.{cell, entry, message, putCell, changed}
+use Rattle.rules.specs.Answers.{Result, answered, made, succeeds, checked}
 use Rattle.states.specs.Sound.{readsFor, readsOf, held, sound}
 use Rattle.states.specs.Chains.{ahead, EndsIn}
 use Rattle.rules.specs.Refusals.{ready, boundRefusals}
 use Rattle.rules.specs.Calls.{start, bound, B}
 use Rattle.rules.specs.Deliver.{deliverHome, deliverAway, deliverRelease, deliverRead, deliverAnswer, deliverSupply, deliverAsk, deliverMessage, deliver}
-use Rattle.rules.specs.Step.{isStart, binds, step, run, delivers, drained, successes, Reached, begun, after}
+use Rattle.rules.specs.Step.{isStart, makesRef, step, run, delivers, drained, successes, Reached, begun, after}
+use Rattle.rules.specs.Payers.{itself}
 use Rattle.states.specs.Machines.{Laws}
 use Rattle.states.specs.Facts.{EntryFact, Facts, ReadAhead, Reads, KnownFact}
+use Rattle.states.proofs.Inside.{cell-inside}
 use Rattle.states.proofs.Derived.{LivePlace, names-live, named-place}
 use Rattle.states.proofs.Named.{both-eq}
 use Rattle.states.proofs.FromTest.{sound-facts, sound-reads}
 use Rattle.states.proofs.ToTest.{facts-sound}
 use Rattle.states.specs.Move.{Makes, nothing, Ranked, Invariant}
-use Rattle.rules.specs.Statements.{noStart, CallsKeepSound, FreedAtNothing, AtMostB, holdsReady, AtRest, slotsTaken, TakesReady, RestIsReached, readOfUnbound, KnownWith, Brought, CallersKept, ReferenceKeepsContext, OnlyBindMovesPayers, Demand3}
+use Rattle.rules.specs.Statements.{noStart, CallsKeepSound, FreedAtNothing, AtMostB, holdsReady, AtRest, slotsTaken, TakesReady, RestIsReached, readOfUnbound, KnownWith, Brought, CallersKept, ReferenceKeepsContext, OnlyBindMovesPayers, KnownBindTakesValue, Demand3}
 use Rattle.rules.proofs.Measure.{measure, measure-bound, StatusOn, KindOn, ExOn, Arrived, arrived}
 use Rattle.states.proofs.Stays.{facts-made, invariant-made}
 use Rattle.rules.proofs.Context.{message-live, context-made, reference-made}
-use Rattle.rules.proofs.Cells.{Becomes, step-becomes, step-leaves, keeps-entry, keeps-caller, CallerFact, keeps-caller-fact}
+use Rattle.rules.proofs.Cells.{put-stored, put-entries, Becomes, step-becomes, step-leaves, keeps-entry, keeps-caller, CallerFact, keeps-caller-fact}
 use Rattle.rules.proofs.Steps.{makes-checked, not-false}
 use Rattle.rules.proofs.Local.{new-makes, set-makes, bind-makes, transfer-makes, drop-makes}
 use Rattle.rules.proofs.Send.{export-makes, indirect-makes, read-makes, ask-makes}
@@ -53,6 +55,7 @@ use Rattle.rules.proofs.Arrive.{message-arrives, deliver-makes}
 use Rattle.rules.proofs.Begun.{start-free, start-invariant}
 use Rattle.rules.proofs.Chains.{ends-one, on-chain}
 use Rattle.rules.proofs.Payers.{comes-to-context, context-pays, cell-is-paid, keeps-payers, bind-moves-payers}
+use Rattle.rules.proofs.KnownBind.{known-bind-is-done, value-ends}
 
 -- ---- every sequence
 module _ (𝓜 : Machine) where
@@ -102,7 +105,7 @@ module _ (𝓜 : Machine) (L : Laws 𝓜) where
 
   -- and every cell becomes what it may
   reached-becomes : (s : Tables) → Reached 𝓜 s → (q : Call) → isStart q ≡ false → (w c : ℕ)
-      → Becomes (binds 𝓜 s q) (cell 𝓜 s w c) (cell 𝓜 (step 𝓜 s q .after) w c)
+      → Becomes (makesRef 𝓜 s q) (cell 𝓜 s w c) (cell 𝓜 (step 𝓜 s q .after) w c)
   reached-becomes s r q n = step-becomes 𝓜 L s (reached-invariant s r .facts .sized) q n
 
   callers-kept : CallersKept 𝓜
@@ -334,11 +337,31 @@ module _ (𝓜 : Machine) (L : Laws 𝓜) where
   reached-callers s (after {s = t} r q n) w c = keeps-caller-fact (reached-becomes t r q n w c) (reached-callers t r w c)
 
   only-bind-moves-payers : OnlyBindMovesPayers 𝓜
-  only-bind-moves-payers s r q n not-bind =
+  only-bind-moves-payers s r q n no-ref =
       let t = step 𝓜 s q .after in
       keeps-payers 𝓜 L s t (reached-invariant s r) (reached-invariant t (after r q n))
-      (λ w c. subst (λ (b : Bool). Becomes b (cell 𝓜 s w c) (cell 𝓜 t w c)) not-bind (reached-becomes s r q n w c)) (step-leaves 𝓜 s q n)
+      (λ w c. subst (λ (b : Bool). Becomes b (cell 𝓜 s w c) (cell 𝓜 t w c)) no-ref (reached-becomes s r q n w c)) (step-leaves 𝓜 s q n)
       (λ o e live live′. keeps-context s r q n o e live live′ .same-cell)
+
+  -- ---- a bind to a known EX
+  known-bind-takes-value : KnownBindTakesValue 𝓜
+  known-bind-takes-value s r w c x o e n v caller a there var known =
+      let I = reached-invariant s r in
+      let q = Bind w c x in
+      let t = step 𝓜 s q .after in
+      let done = known-bind-is-done 𝓜 s (is-sound s I) w c x o e n v caller a there var known in
+      let next : t ≡ putCell 𝓜 s w c (Val v caller) = ap (λ (y : Result). y .after) done in
+      let inside = cell-inside 𝓜 s w c (ap isFree var) in
+      let stored = put-stored 𝓜 L s (I .facts .sized) w c (Val v caller) (inside .0) (inside .1) in
+      let is : cell 𝓜 t w c ≡ Val v caller = ap (λ (u : Tables). cell 𝓜 u w c) next ∙ stored .here in
+      record {
+        ends-there =
+            λ i j live l.
+            let live′ = ap (λ (u : Tables). isLive (entry 𝓜 u i j)) next ∙ ap isLive (put-entries 𝓜 s w c (Val v caller) i j) ∙ live in
+            value-ends 𝓜 t w c v caller (l .steps) (l .number) (At i j) is (keeps-context s r q refl i j live live′ .same-steps w c l);
+        own-caller-pays =
+            context-pays 𝓜 L t (reached-invariant t (after r q refl)) w c w c (itself refl refl (ap (λ (k : Kind). isVar k || isVal k) is)) ∙ ap callerOf is;
+      }
 
   -- ---- the whole
   pub demand-3 : Demand3 𝓜
@@ -369,5 +392,7 @@ module _ (𝓜 : Machine) (L : Laws 𝓜) where
         context-pays = λ s r. context-pays 𝓜 L s (reached-invariant s r);
         only-bind-moves-payers = only-bind-moves-payers;
         bind-moves-payers =
-            λ s r w c x. bind-moves-payers 𝓜 L s (reached-invariant s r) w c x (reached-invariant (step 𝓜 s (Bind w c x) .after) (after r (Bind w c x) refl));
+            λ s r w c x unknown.
+            bind-moves-payers 𝓜 L s (reached-invariant s r) w c x unknown (reached-invariant (step 𝓜 s (Bind w c x) .after) (after r (Bind w c x) refl));
+        known-bind-takes-value = known-bind-takes-value;
       }

@@ -47,6 +47,17 @@ start 𝓜 p =
 abbrev pub valued : ℕ → Kind → Kind
 valued n k = onVar k (λ caller. Val n caller) k
 
+-- what a VAR, which holds k, becomes where it is bound to the end y, an EX of this status: "a REF to that end"; W-203: "binding to a known EX makes
+-- the cell VAL with that value, exported or not, and names no EX; the cell keeps its own caller"
+abbrev pub boundToEx : ℕ → Kind → Status → Kind
+boundToEx y k Idle = Ref y
+boundToEx y k Reading = Ref y
+boundToEx y k (Known v) = valued v k
+
+-- the end holds ex; any other than an EX is refused before
+abbrev pub boundTo : ℕ → Kind → Kind → Kind
+boundTo y k ex = onEx (Ref y) (λ o e n st a. boundToEx y k st) ex
+
 -- "Its entry, or the lowest free one made .., gains 1,024": the entry of the cell c, made with this taint
 abbrev pub gains : ℕ → ℕ → Bool → Holding → Holding
 gains first c taint Unused = Live c first taint
@@ -132,9 +143,13 @@ module _ (𝓜 : Machine) (s : Tables) where
   unfoldable pub set : ℕ → ℕ → ℕ → Effect
   set w c n = checked (setRefusals 𝓜 s w c) (done 0 (OfCell w c (valued n (cell 𝓜 s w c))))
 
-  -- "bind(w, c, x): c is a VAR, the end of x an EX; c becomes a REF to that end." W-201: "A bind loses the variable's own caller".
+  -- "bind(w, c, x): c is a VAR, the end of x an EX; c becomes a REF to that end." W-201: "A bind loses the variable's own caller". W-203: "binding
+  -- to a known EX makes the cell VAL with that value .. the cell keeps its own caller, which amends W-201 for this one case".
+  abbrev pub boundCell : ℕ → ℕ → ℕ → Kind
+  boundCell w c x = boundTo (end 𝓜 s w x) (cell 𝓜 s w c) (endKind 𝓜 s w x)
+
   unfoldable pub bind : ℕ → ℕ → ℕ → Effect
-  bind w c x = checked (bindRefusals 𝓜 s w c x) (done 0 (OfCell w c (Ref (end 𝓜 s w x))))
+  bind w c x = checked (bindRefusals 𝓜 s w c x) (done 0 (OfCell w c (boundCell w c x)))
 
   -- "export(w, c, to): .. Value: slot."
   unfoldable pub export : ℕ → ℕ → ℕ → Effect

@@ -1,5 +1,5 @@
--- Document 01's numbered cases K1 to K10 as one table, the wrong turnings that they leave open as another, a case of W-201's callers, and the
--- whole run printed in document 01's "text program", as calls with their codes and values. A case begins from a state, and each row is a call
+-- Document 01's numbered cases K1 to K10 as one table, the wrong turnings that they leave open as another, a case of W-201's callers, one of W-203's
+-- known EX, and the whole run printed in document 01's "text program", as calls with their codes and values. A case begins from a state, and each row is a call
 -- with its answer or a look at what then stands in the tables. Assumes nothing.
 use Prim.Native.Nat.{ℕ}
 use mathlib.Core.Bool.{Bool, true, false, _&&_, _||_, not}
@@ -8,8 +8,8 @@ use lib.Dec.{eqb}
 use lib.ListN.{replicate}
 use Rattle.numbers.specs.Below.{allBelow, sumBelow, lowestFrom, walkMeets}
 use Rattle.numbers.specs.Lists.{eachFrom, total}
-use Rattle.tables.specs.declared.Status.the-variants.{Idle}
-use Rattle.tables.specs.declared.Kind.the-variants.{Free, Var, Ex}
+use Rattle.tables.specs.declared.Status.the-variants.{Idle, Reading}
+use Rattle.tables.specs.declared.Kind.the-variants.{Free, Var, Val, Ex}
 use Rattle.tables.specs.declared.Holding.the-variants.{Unused, Live}
 use Rattle.tables.specs.declared.Message.{Message}
 use Rattle.tables.specs.declared.Message.the-variants.{Empty, Reference, Release, Read, Answer, Ask, Supply}
@@ -304,6 +304,27 @@ callers =
     ∷ callerIs 0 0 255
     ∷ [])
 
+-- ---- W-203: "binding to a known EX makes the cell VAL with that value, exported or not ..; the cell keeps its own caller"; "Refusal 8 is given only
+-- for an EX that is not known." A VAR of caller 9 of worker 0, exported, and a reading EX of a VAL of caller 4 of worker 1, which is unsafe there.
+unfoldable pub unsafeReading : Tables
+unsafeReading =
+    let contexts = putCell eight (putCell eight (allFree eight 2) 0 0 (Var 9)) 1 0 (Val 7 4) in
+    let exes = putCell eight (putCell eight contexts 0 1 (Ex 1 0 5 Reading false)) 1 1 (Ex 0 0 5 Idle false) in
+    putMessage (putEntry eight (putEntry eight exes 0 0 (Live 0 5 false)) 1 0 (Live 0 5 false)) 0 (Read 0 1 1 0)
+
+abbrev pub knownBind : Case
+knownBind =
+    case unsafeReading
+    (gives (Bind 0 0 1) 8 0
+    ∷ gives (Deliver 0) 0 0
+    ∷ gives (Deliver 0) 0 1
+    ∷ gives (Bind 0 0 1) 0 0
+    ∷ callerIs 0 0 9
+    ∷ gives (ReadCell 0 0) 0 7
+    ∷ cellWeighs 0 1 5
+    ∷ gives (Drop 0 1) 0 0
+    ∷ [])
+
 -- ---- "A whole run, input then output, line for line"
 abbrev pub wholeRun : Case
 wholeRun =
@@ -327,7 +348,7 @@ wholeRun =
 
 -- every row holds, one after the other
 unfoldable pub holdsFrom : Tables → List Row → Bool
-unfolding allBelow sumBelow lowestFrom walkMeets eachFrom total cell entry end endKind safe entryOf exported referred busy lowestFreeCell lowestFreeEntry lowestEmptySlot exNaming freeCells booked liveEntries putCell putEntry putMessage checked exesNaming entriesNaming readsOf asksOf follow reached held point1 point2 point3 point4 point5 point6 sound entryToUse ready allFree start new set bind export indirect transfer drop read ask B bound arrivalCell deliverHome deliverAway deliverRelease deliverRead deliverAnswer deliverSupply deliverAsk deliverMessage deliver step atCeiling nearlyFull nothingHeld belowCeiling called
+unfolding allBelow sumBelow lowestFrom walkMeets eachFrom total cell entry end endKind safe entryOf exported referred busy lowestFreeCell lowestFreeEntry lowestEmptySlot exNaming freeCells booked liveEntries putCell putEntry putMessage checked exesNaming entriesNaming readsOf asksOf follow reached held point1 point2 point3 point4 point5 point6 sound entryToUse ready allFree start new set bind export indirect transfer drop read ask B bound arrivalCell deliverHome deliverAway deliverRelease deliverRead deliverAnswer deliverSupply deliverAsk deliverMessage deliver step atCeiling nearlyFull nothingHeld belowCeiling called unsafeReading
 holdsFrom s [] = true
 holdsFrom s ((gives q code value) ∷ rows) =
     let r = step eight s q in

@@ -13,7 +13,7 @@ use Rattle.tables.specs.declared.Used.{Used}
 use Rattle.tables.specs.declared.Room.{Room}
 use Rattle.tables.specs.declared.Refusal.the-variants.{NotSound, NoWorker, ToItself, NoCell, WrongKind, Busy, Unsafe, LastWeight, OverCeiling, NoEntry, NoRoom, NoSlot, NoMessage, NotReady, NoCaller, TooManyCharges}
 use Rattle.tables.specs.Machine.{Machine, Tables}
-use Rattle.tables.specs.Parts.{onEx, isFree, isVar, isEx, isAsking, exWeight, entryWeight, isEmpty, onRead}
+use Rattle.tables.specs.Parts.{onEx, isFree, isVar, isEx, isKnown, isAsking, exWeight, entryWeight, isEmpty, onRead}
 use Rattle.tables.specs.Look.{cell, entry, end, endKind, safe, entryOf, exported, busy, lowestFreeEntry, lowestEmptySlot, freeCells, booked, message, room}
 use Rattle.rules.specs.Answers.{Check, _when_}
 use Rattle.states.specs.Chains.{entryEnd}
@@ -65,9 +65,9 @@ notEx k = WrongKind when not (isEx k)
 abbrev pub busyCell : Bool → Check
 busyCell is-busy = Busy when is-busy
 
--- 8: "c has a live entry and the EX is unsafe"
-abbrev pub unsafeBind : Bool → Bool → Check
-unsafeBind has-entry is-safe = Unsafe when (has-entry && not is-safe)
+-- 8: "c has a live entry and the EX is unsafe"; W-203: "only for an EX that is not known"
+abbrev pub unsafeBind : Bool → Bool → Kind → Check
+unsafeBind has-entry is-safe ex = Unsafe when (not (isKnown ex) && (has-entry && not is-safe))
 
 -- 9: "EX of weight 1"
 abbrev pub lastWeight : Kind → Check
@@ -124,7 +124,7 @@ setLines is-sound p w k = (cellLines is-sound p w k ++ notVar k ∷ []) ++ []
 -- k and x are what the two cells hold, ex the end of the other one
 abbrev pub bindLines : Bool → ℕ → ℕ → Kind → Kind → Kind → Bool → Bool → List Check
 bindLines is-sound p w k x ex has-entry is-safe =
-    (cellLines is-sound p w k ++ noCell x ∷ notVar k ∷ notEx ex ∷ []) ++ unsafeBind has-entry is-safe ∷ []
+    (cellLines is-sound p w k ++ noCell x ∷ notVar k ∷ notEx ex ∷ []) ++ unsafeBind has-entry is-safe ex ∷ []
 
 -- what export, indirect and transfer test first
 abbrev pub sendLines : Bool → ℕ → ℕ → ℕ → Kind → List Check

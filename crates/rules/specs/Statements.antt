@@ -1,5 +1,5 @@
--- Demand 3, sentence by sentence, that every sound state stays sound, what the whole is for, that a context keeps its caller and a cell its payer,
--- as statements about the rules of a machine.
+-- Demand 3, sentence by sentence, that every sound state stays sound, what the whole is for, that a context keeps its caller and a cell its payer, and
+-- what a bind to a known EX does, as statements about the rules of a machine.
 -- Nothing else is on this page; the proofs are in proofs/. The order's own words stand in quotation marks.
 --
 -- "Take any sequence of calls, refused ones included, from an accepted start and with no second start in it" is `Reached` of the rules: every
@@ -18,16 +18,17 @@ use Rattle.tables.specs.declared.Message.the-variants.{Empty, Reference, Releas
 use Rattle.tables.specs.declared.Place.the-variants.{At}
 use Rattle.tables.specs.declared.Call.{Call}
 use Rattle.tables.specs.declared.Call.the-variants.{Bind}
+use Rattle.tables.specs.declared.Outcome.the-variants.{Done}
 use Rattle.tables.specs.Machine.{Machine, Tables}
-use Rattle.tables.specs.Parts.{isFree, isVar, isVal, hasCaller, callerOf, isEx, exNames, isLive, isTainted, entryNames, cellOf, entryWeight, isEmpty}
-use Rattle.tables.specs.Look.{cell, entry, liveEntries, message}
+use Rattle.tables.specs.Parts.{isFree, isVar, isVal, hasCaller, callerOf, isEx, isKnown, exNames, isLive, isTainted, entryNames, cellOf, entryWeight, isEmpty}
+use Rattle.tables.specs.Look.{cell, entry, endKind, liveEntries, message, putCell}
 use Rattle.rules.specs.Answers.{succeeds}
 use Rattle.states.specs.Sound.{held, sound}
 use Rattle.states.specs.Chains.{entryEnd, ahead, EndsIn, LeadsTo}
 use Rattle.rules.specs.Refusals.{ready}
 use Rattle.rules.specs.Calls.{start, B}
 use Rattle.states.specs.Machines.{Sized}
-use Rattle.rules.specs.Step.{isStart, binds, step, run, delivers, drained, successes, Reached}
+use Rattle.rules.specs.Step.{isStart, makesRef, step, run, delivers, drained, successes, Reached}
 use Rattle.rules.specs.Payers.{isCaller, payer, CellLeadsTo}
 
 -- a list of calls with no start in it
@@ -205,7 +206,7 @@ module _ (𝓜 : Machine) where
 
   -- No call but bind changes who pays for a cell that stays, nor for an entry that stays, which a message may name; and whatever entry an EX names
   -- after the call was live before it, and whoever paid for that entry's cell then pays for the EX. So time is never booked to a caller through a number
-  -- that was given out again. A bind that is refused changes nothing either.
+  -- that was given out again. Nor does a bind that is refused, nor, by W-203, a bind to a known EX.
   pub record KeepsPayers (s s′ : Tables) : Type 0 where
     pub of-cell : (w c : ℕ) → isFree (cell 𝓜 s w c) ≡ false → isFree (cell 𝓜 s′ w c) ≡ false → payer 𝓜 s′ w c ≡ payer 𝓜 s w c
     pub of-entry : (o e : ℕ) → isLive (entry 𝓜 s o e) ≡ true → isLive (entry 𝓜 s′ o e) ≡ true
@@ -215,18 +216,40 @@ module _ (𝓜 : Machine) where
 
   abbrev pub OnlyBindMovesPayers : Type 0
   OnlyBindMovesPayers =
-      (s : Tables) → Reached 𝓜 s → (q : Call) → isStart q ≡ false → binds 𝓜 s q ≡ false → KeepsPayers s (step 𝓜 s q .after)
+      (s : Tables) → Reached 𝓜 s → (q : Call) → isStart q ≡ false → makesRef 𝓜 s q ≡ false → KeepsPayers s (step 𝓜 s q .after)
 
-  -- A bind that is done moves the payer of its cell, and of all that lead to it, to the payer of the other; of no other cell.
+  -- A bind to an EX that is not known, where it is done, moves the payer of its cell, and of all that lead to it, to the payer of the other; of no other
+  -- cell.
   pub record MovesPayers (s s′ : Tables) (w c x : ℕ) : Type 0 where
     pub of-those : (v d : ℕ) → CellLeadsTo 𝓜 s v d w c → payer 𝓜 s′ v d ≡ payer 𝓜 s w x
     pub of-no-other : (v d : ℕ) → (CellLeadsTo 𝓜 s v d w c → ⊥) → payer 𝓜 s′ v d ≡ payer 𝓜 s v d
 
   abbrev pub BindMovesPayers : Type 0
   BindMovesPayers =
-      (s : Tables) → Reached 𝓜 s → (w c x : ℕ) → succeeds (step 𝓜 s (Bind w c x) .outcome) ≡ true → MovesPayers s (step 𝓜 s (Bind w c x) .after) w c x
+      (s : Tables) → Reached 𝓜 s → (w c x : ℕ) → isKnown (endKind 𝓜 s w x) ≡ false → succeeds (step 𝓜 s (Bind w c x) .outcome) ≡ true
+      → MovesPayers s (step 𝓜 s (Bind w c x) .after) w c x
 
-  -- Demand 3, whole, that a reference keeps its context, a context its caller, and a cell its payer.
+  -- ---- W-203: bind to a known EX
+
+  -- "binding to a known EX makes the cell VAL with that value, exported or not, and names no EX; the cell keeps its own caller .. Refusal 8 is given only
+  -- for an EX that is not known": in every sound state, reached or made by hand, a VAR of a worker that is there is bound, and nothing else changes.
+  abbrev pub KnownBindIsDone : Type 0
+  KnownBindIsDone =
+      (s : Tables) → sound 𝓜 s ≡ true → (w c x o e n v caller : ℕ) (a : Bool) → w < s .p → cell 𝓜 s w c ≡ Var caller
+      → endKind 𝓜 s w x ≡ Ex o e n (Known v) a → step 𝓜 s (Bind w c x) ≡ record { outcome = Done 0; after = putCell 𝓜 s w c (Val v caller) }
+
+  -- In a reached state that value is the one in which the chain of the EX ends (`KnownIsTrue`). Whatever led to the cell ends in it from then on, so that
+  -- by `Brought` the reads waiting there bring it; and the cell's own caller pays for it.
+  pub record TakesKnownValue (s s′ : Tables) (w c v caller : ℕ) : Type 0 where
+    pub ends-there : (o e : ℕ) → isLive (entry 𝓜 s o e) ≡ true → LeadsTo 𝓜 s (At o e) w c → EndsIn 𝓜 s′ (At o e) v
+    pub own-caller-pays : payer 𝓜 s′ w c ≡ caller
+
+  abbrev pub KnownBindTakesValue : Type 0
+  KnownBindTakesValue =
+      (s : Tables) → Reached 𝓜 s → (w c x o e n v caller : ℕ) (a : Bool) → w < s .p → cell 𝓜 s w c ≡ Var caller
+      → endKind 𝓜 s w x ≡ Ex o e n (Known v) a → TakesKnownValue s (step 𝓜 s (Bind w c x) .after) w c v caller
+
+  -- Demand 3, whole, that a reference keeps its context, a context its caller, and a cell its payer, and what a bind to a known EX does.
   pub record Demand3 : Type 0 where
     pub every-sequence : EverySequence
     pub stays-sound : StaysSound
@@ -247,3 +270,4 @@ module _ (𝓜 : Machine) where
     pub context-pays : ContextPays
     pub only-bind-moves-payers : OnlyBindMovesPayers
     pub bind-moves-payers : BindMovesPayers
+    pub known-bind-takes-value : KnownBindTakesValue

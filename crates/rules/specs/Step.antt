@@ -1,12 +1,14 @@
 -- One call of the twelve, sequences of calls, and deliveries in a given order. Assumes nothing.
 use Prim.Native.Nat.{ℕ, _+_}
-use mathlib.Core.Bool.{Bool, true, false, _&&_}
+use mathlib.Core.Bool.{Bool, true, false, _&&_, not}
 use mathlib.Core.List.{List, [], _∷_}
 use mathlib.Core.Path.{_≡_}
 use Rattle.numbers.specs.Below.{bit}
 use Rattle.tables.specs.declared.Call.{Call}
 use Rattle.tables.specs.declared.Call.the-variants.{Start, New, Set, Bind, Export, Indirect, Transfer, Drop, ReadCell, AskWeight, Deliver, Bound}
 use Rattle.tables.specs.Machine.{Machine, Tables}
+use Rattle.tables.specs.Parts.{isKnown}
+use Rattle.tables.specs.Look.{endKind}
 use Rattle.rules.specs.Answers.{Result, made, succeeds}
 use Rattle.rules.specs.Calls.{start, new, set, bind, export, indirect, transfer, drop, read, ask, bound}
 use Rattle.rules.specs.Deliver.{deliver}
@@ -58,23 +60,24 @@ isStart (AskWeight w c) = false
 isStart (Deliver k) = false
 isStart Bound = false
 
-abbrev pub isBind : Call → Bool
-isBind (Start p) = false
-isBind (New w caller) = false
-isBind (Set w c n) = false
-isBind (Bind w c x) = true
-isBind (Export w c to) = false
-isBind (Indirect w c to) = false
-isBind (Transfer w c to) = false
-isBind (Drop w c) = false
-isBind (ReadCell w c) = false
-isBind (AskWeight w c) = false
-isBind (Deliver k) = false
-isBind Bound = false
+-- a bind to what is not known
+abbrev pub bindsUnknown : Machine → Tables → Call → Bool
+bindsUnknown 𝓜 s (Start p) = false
+bindsUnknown 𝓜 s (New w caller) = false
+bindsUnknown 𝓜 s (Set w c n) = false
+bindsUnknown 𝓜 s (Bind w c x) = not (isKnown (endKind 𝓜 s w x))
+bindsUnknown 𝓜 s (Export w c to) = false
+bindsUnknown 𝓜 s (Indirect w c to) = false
+bindsUnknown 𝓜 s (Transfer w c to) = false
+bindsUnknown 𝓜 s (Drop w c) = false
+bindsUnknown 𝓜 s (ReadCell w c) = false
+bindsUnknown 𝓜 s (AskWeight w c) = false
+bindsUnknown 𝓜 s (Deliver k) = false
+bindsUnknown 𝓜 s Bound = false
 
--- a bind that is not refused
-abbrev pub binds : Machine → Tables → Call → Bool
-binds 𝓜 s q = isBind q && succeeds (step 𝓜 s q .outcome)
+-- and it is not refused: a REF is made, which no other call does
+abbrev pub makesRef : Machine → Tables → Call → Bool
+makesRef 𝓜 s q = bindsUnknown 𝓜 s q && succeeds (step 𝓜 s q .outcome)
 
 -- the states reached from an accepted start by calls with no start among them, refused ones included
 pub data Reached (𝓜 : Machine) : Tables → Type 0 where

@@ -80,9 +80,17 @@ readingOf Idle = false
 readingOf Reading = true
 readingOf (Known n) = false
 
--- an EX that is reading, and one that is asking
+abbrev pub knownOf : Status → Bool
+knownOf Idle = false
+knownOf Reading = false
+knownOf (Known n) = true
+
+-- an EX that is reading, one that is known, and one that is asking
 abbrev pub isReading : Kind → Bool
 isReading k = onEx false (λ o e w st a. readingOf st) k
+
+abbrev pub isKnown : Kind → Bool
+isKnown k = onEx false (λ o e w st a. knownOf st) k
 
 abbrev pub isAsking : Kind → Bool
 isAsking k = onEx false (λ o e w st a. a) k
