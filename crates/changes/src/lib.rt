@@ -219,7 +219,7 @@ fn bound_to_ex(y: u8, k: Kind, st: Status) -> Kind
     }
 }
 
-// And where it is bound to the end y, which holds ex.
+// And where it is bound to the end y, which holds ex; a REF where that is no EX: that is refused, and the answer is not used.
 pub fn bound_to(y: u8, k: Kind, ex: Kind) -> Kind
     ensures { λ r. ⌜ r ≡ boundTo y k ex ⌝ }
 {

@@ -61,7 +61,7 @@ pub fn set(s: State, w: u8, c: u8, n: u32) -> Reply
     changes::replied(s, v.answer(done))
 }
 
-// The VAR c becomes a REF to the end of x, an EX, and loses its caller; where the EX is known, a VAL that keeps it.
+// The VAR c becomes a REF to the end of x, an EX, and loses its caller; where the EX is known, a VAL with the known value that keeps it.
 pub fn bind(s: State, w: u8, c: u8, x: u8) -> Reply
     ensures { λ r. ⌜ r ≡ reply (made eight (tables s) (bind eight (tables s) w c x)) ⌝ }
 {

@@ -165,7 +165,7 @@ module _ (𝓜 : Machine) (L : Laws 𝓜) (s : Tables) (z : Sized 𝓜 s) where
       go (Ref d) = looks-same refl
       go (Ex o e m st a) = looks-same refl
 
-  -- a bind makes a REF where it is not refused and the EX is not known, and else a value
+  -- a bind that is not refused makes a REF where the EX is not known, and else a value
   bind-puts : (w c x : ℕ) → CallPuts (not (isKnown (endKind 𝓜 s w x)) && succeeds (bind 𝓜 s w c x .outcome)) (bind 𝓜 s w c x)
   unfolding bind
   bind-puts w c x =

@@ -243,7 +243,7 @@ pub record Alike (k k′ : Kind) : Type 0 where
   pub caller : callerOf k′ ≡ callerOf k
   pub same-end : (d : ℕ) → endFrom k′ d ≡ endFrom k d
 
--- a cell that stays, but for a bind, says the same
+-- a cell that stays, but for one that becomes a REF, says the same
 stays-alike : {k k′ : Kind} → Becomes false k k′ → isFree k ≡ false → isFree k′ ≡ false → Alike k k′
 stays-alike {k} {k′} (looks-same q) nf nf′ =
     record {
@@ -326,7 +326,7 @@ module _ (𝓜 : Machine) (L : Laws 𝓜) (s t : Tables) (I : Invariant 𝓜 s) 
             (λ same. sym (ap isLive (same o e)) ∙ live′) leaves in
             (live, ex-pays 𝓜 L t J o e w c names ∙ of-entry o e live live′)
 
--- ---- a bind
+-- ---- a bind that makes a REF
 -- the rank does not rise along a chain
 ahead-falls : (𝓜 : Machine) (s : Tables) (r : ℕ → ℕ → ℕ) → Ranked 𝓜 s r → (n o e a b : ℕ) → ahead 𝓜 s n (At o e) ≡ At a b → r a b ≤ r o e
 unfolding ahead

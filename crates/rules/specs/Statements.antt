@@ -206,7 +206,7 @@ module _ (𝓜 : Machine) where
 
   -- No call but bind changes who pays for a cell that stays, nor for an entry that stays, which a message may name; and whatever entry an EX names
   -- after the call was live before it, and whoever paid for that entry's cell then pays for the EX. So time is never booked to a caller through a number
-  -- that was given out again. Nor does a bind that is refused, nor, by W-203, a bind to a known EX.
+  -- that was given out again. A bind that is refused changes none of this either, nor, by W-203, does a bind to a known EX.
   pub record KeepsPayers (s s′ : Tables) : Type 0 where
     pub of-cell : (w c : ℕ) → isFree (cell 𝓜 s w c) ≡ false → isFree (cell 𝓜 s′ w c) ≡ false → payer 𝓜 s′ w c ≡ payer 𝓜 s w c
     pub of-entry : (o e : ℕ) → isLive (entry 𝓜 s o e) ≡ true → isLive (entry 𝓜 s′ o e) ≡ true
@@ -238,7 +238,7 @@ module _ (𝓜 : Machine) where
       (s : Tables) → sound 𝓜 s ≡ true → (w c x o e n v caller : ℕ) (a : Bool) → w < s .p → cell 𝓜 s w c ≡ Var caller
       → endKind 𝓜 s w x ≡ Ex o e n (Known v) a → step 𝓜 s (Bind w c x) ≡ record { outcome = Done 0; after = putCell 𝓜 s w c (Val v caller) }
 
-  -- In a reached state that value is the one in which the chain of the EX ends (`KnownIsTrue`). Whatever led to the cell ends in it from then on, so that
+  -- In a reached state that value is the one in which the chain of the EX ends (`KnownIsTrue`). Whatever led to the cell ends in it after the call, so that
   -- by `Brought` the reads waiting there bring it; and the cell's own caller pays for it.
   pub record TakesKnownValue (s s′ : Tables) (w c v caller : ℕ) : Type 0 where
     pub ends-there : (o e : ℕ) → isLive (entry 𝓜 s o e) ≡ true → LeadsTo 𝓜 s (At o e) w c → EndsIn 𝓜 s′ (At o e) v

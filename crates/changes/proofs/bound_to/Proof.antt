@@ -1,4 +1,4 @@
--- `changes::bound_to` meets its contract: what an EX makes of the VAR, and what nothing else does. Assumes nothing.
+-- `changes::bound_to` meets its contract: one arm reads the status of the EX. Assumes nothing.
 use borrow.Author.Needs.{needs}
 use Rattle.parts.proofs.Others.{not-ex}
 use Rattle.changes.proofs.bound_to.Statement.{statement}
