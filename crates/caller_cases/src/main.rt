@@ -1,6 +1,8 @@
 // What becomes of callers (W-201), and of a variable that is bound to a known EX (W-203): calls on states that are reached, from a start, and on states
 // made by hand, by their names. A call is written as its frame with its answer, and after it, and after a name, every cell that is not free: its worker
 // and number, what it is, a VAL's value, and last the caller of a VAR or a VAL.
+#![tactic(auto)]
+
 use cases_parts::{ex, idle, live, reference};
 use changes::all_free;
 use frames::Decoded;

@@ -1,6 +1,8 @@
 // Puts every call, with each of its answers and refusals but for 16 (that is in caller_cases), to hand-made states and writes what is done, a
 // line each: a state that is made; a call, the three bytes of its frame and the answer as the text program prints it; or a look, a number of
 // the state between calls. A refused call hands its state on to the next, and a bound or a read after a row of refusals shows that it is as it was.
+#![tactic(auto)]
+
 use cases_parts::{ex, idle, live, tainted};
 use lookups::{put_cell, put_entry, put_message};
 use tables::{Call, Kind, Outcome, Reply, State, Status};

@@ -1,4 +1,6 @@
 // The parts of the hand-made states that the cases are tried on, each by its fields.
+#![tactic(auto)]
+
 ghost use Rattle.std.specs.Prelude.{true, false, ◌≡◌};
 ghost use Rattle.tables.specs.declared.Holding.TheVariants.{Live};
 ghost use Rattle.tables.specs.declared.Kind.TheVariants.{Ex};

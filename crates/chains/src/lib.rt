@@ -1,4 +1,6 @@
 // Chains: the step along ends and references from each entry, as a table that is made once, and the walk by it.
+#![tactic(auto)]
+
 ghost use Rattle.std.specs.Prelude.{◌≡◌};
 ghost use Rattle.numbers.specs.Below.{walk_meets};
 ghost use Rattle.tables.specs.declared.Place.TheVariants.{At};

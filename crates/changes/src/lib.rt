@@ -1,4 +1,6 @@
 // What each call but deliver does where it is not refused: its answer and what it changes, from what is looked up; and the state after any call.
+#![tactic(auto)]
+
 ghost use Rattle.std.specs.Prelude.{◌≤◌, min, ◌≡◌};
 ghost use Rattle.tables.specs.declared.Kind.TheVariants.{Var};
 ghost use Rattle.tables.specs.declared.Change.TheVariants.{Nothing, OfCell, OfCellAndSlot, OfEntryAndSlot};

@@ -1,4 +1,6 @@
 // The call deliver, equal to its rule for all states and all numbers.
+#![tactic(auto)]
+
 ghost use Rattle.std.specs.Prelude.{◌≤◌, ◌≡◌, true};
 ghost use Rattle.tables.specs.Machine.{Tables, eight, tables};
 ghost use Rattle.tables.specs.Parts.{message_weight};

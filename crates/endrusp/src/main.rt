@@ -1,4 +1,6 @@
 // The program: reads standard input to its end, or one byte more than is run, runs it and writes the answers.
+#![tactic(auto)]
+
 ghost use Rattle.std.specs.Prelude.{◌≡◌, length};
 ghost use Rattle.endrusp.specs.Counts.{Counts};
 

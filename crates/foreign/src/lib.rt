@@ -1,4 +1,6 @@
 // The text program's work for Rust and C to call.
+#![tactic(auto)]
+
 ghost use Rattle.std.specs.Prelude.{◌≡◌};
 ghost use Rattle.text.specs.Room.{written};
 ghost use Rattle.foreign.specs.Answer.{bytes_written};

@@ -1,5 +1,7 @@
 // The text form of frames and answers: hexadecimal digits, the call that a line says, where a line ends, and the eleven bytes
 // of an answer.
+#![tactic(auto)]
+
 ghost use Rattle.std.specs.Prelude.{◌≡◌, ◌%◌, ◌≤◌, length};
 ghost use Rattle.rules.specs.Answers.{number_of, code_of, value_of};
 ghost use Rattle.frames.specs.Hex.{digit_in, digit_out, number_in};

@@ -1,6 +1,8 @@
 // What stands in the tables at a number, and the state with one part changed. Each function is total: out of range reads free, and a store
 // there changes nothing. A look-up takes the one table that it reads, since a state is copied wherever it is passed, and says what it
 // finds of any tables t that have this one.
+#![tactic(auto)]
+
 ghost use Rattle.std.specs.Prelude.{◌≡◌};
 ghost use Rattle.tables.specs.Machine.{Tables, eight, tables, state};
 ghost use Rattle.tables.specs.Look.{cell, entry, message, put_cell, put_entry, put_message, safe};

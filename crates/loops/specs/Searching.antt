@@ -39,7 +39,7 @@ count_start p n = record { within = omega arith; sofar = sym (sum_zero (λ i. bi
 pub count_step : {p : ℕ → Bool} {n i k r : ℕ} {b : Bool} → Counting p n i k → i < n → b ≡ p i → r ≡ bit b → Counting p n (i + 1) (k + r)
 count_step {p} {n} {i} {k} {r} {b} s h e t =
     let small = s.small in
-    let one : (c : Bool) → bit c ≤ 1 = λ c. elim c [ true ↦ omega arith | false ↦ omega arith ] in
+    let one : (c : Bool) → bit c ≤ 1 = λ c. elim c as (λ k. bit k ≤ 1) [ true ↦ omega arith | false ↦ omega arith ] in
     let le = one b in
     let here : r ≡ bit (p i) = t ∙ ap bit e in
     let so = s.sofar in

@@ -1,1 +1,3 @@
 // No code: the laws of loops, in specs/.
+#![tactic(auto)]
+

@@ -1,4 +1,6 @@
 // Points 2 and 3 of a sound state: what REF, EX and live entries name.
+#![tactic(auto)]
+
 ghost use Rattle.std.specs.Prelude.{◌≡◌};
 ghost use Rattle.tables.specs.Machine.{eight, tables};
 ghost use Rattle.states.specs.Sound.{point2, point3};

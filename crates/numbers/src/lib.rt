@@ -1,5 +1,7 @@
 // Tests without branches: each argument is computed, and the result is what the definition says. specs/ has the definitions and laws
 // of searching, counting and summing.
+#![tactic(auto)]
+
 ghost use Rattle.std.specs.Prelude.{◌≡◌, ◌&&◌, ◌||◌};
 ghost use Rattle.numbers.specs.Below.{bit};
 

@@ -1,4 +1,6 @@
 // Tests of one part of the state, and what it names and weighs: what a cell, an entry or a slot holds.
+#![tactic(auto)]
+
 ghost use Rattle.std.specs.Prelude.{◌≡◌};
 ghost use Rattle.tables.specs.Parts.{is_free, is_var, is_val, is_ex, reading_of, known_of, is_reading, is_known, is_asking, ex_names, named_by, ex_weight, ref_names, end_from, is_at};
 ghost use Rattle.tables.specs.Parts.{is_unused, is_live, is_tainted, entry_names, cell_of, entry_weight, is_empty, goes_to};

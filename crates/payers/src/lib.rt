@@ -1,5 +1,7 @@
 // Who pays for each cell's time (W-202): the way on from each cell, along its end and its reference, as tables that are made once, and the walk by
 // them.
+#![tactic(auto)]
+
 ghost use Rattle.std.specs.Prelude.{◌≡◌, ◌<◌};
 ghost use Rattle.tables.specs.Parts.{caller_of};
 ghost use Rattle.tables.specs.Machine.{eight, tables};

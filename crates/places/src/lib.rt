@@ -1,5 +1,7 @@
 // Look-ups for a loop that reads the state itself, since a call would copy it: the number to read at, and what is seen there. A cell or
 // an entry that there is none of is read at 0 and seen free.
+#![tactic(auto)]
+
 ghost use Rattle.std.specs.Prelude.{◌≡◌, ◌<◌};
 ghost use Rattle.tables.specs.declared.Place.TheVariants.{At};
 ghost use Rattle.tables.specs.Machine.{eight};

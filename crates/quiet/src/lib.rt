@@ -1,5 +1,7 @@
 // The quiet calls, which send no message and deliver none: start, new, set, bind and bound, each equal to its rule for all states and all numbers;
 // and what every call goes by, the verdict and the first lines of its refusals.
+#![tactic(auto)]
+
 ghost use Rattle.std.specs.Prelude.{◌≡◌};
 ghost use Rattle.tables.specs.Machine.{eight, tables};
 ghost use Rattle.rules.specs.Answers.{made, reply};

@@ -1,4 +1,6 @@
 // Point 1 of a sound state: every number is in its range, and everything of workers P and up is free.
+#![tactic(auto)]
+
 ghost use Rattle.std.specs.Prelude.{◌≡◌};
 ghost use Rattle.tables.specs.Machine.{Tables, eight, tables};
 ghost use Rattle.states.specs.Sound.{point1, each_cell, each_entry, each_message};

@@ -1,5 +1,7 @@
 // The reader that holds the text and its place, and moves on as it reads. Its methods leave the work to `read_at`, which takes a
 // slice and a number.
+#![tactic(auto)]
+
 ghost use Rattle.std.specs.Prelude.{◌≡◌};
 ghost use Rattle.reader.specs.Read.{read_at, passage, moved_on};
 

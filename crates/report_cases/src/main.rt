@@ -1,5 +1,7 @@
 // The cost report (W-202): lists of charges on states reached from a start and on states made by hand. A report is written as its name and
 // code, each caller whose total is not 0 with that total, how many charges were placed and how many not, and the unplaced total.
+#![tactic(auto)]
+
 ghost use Rattle.std.specs.Prelude.{◌≡◌, ◌≤◌, take};
 ghost use Rattle.tables.specs.Machine.{eight, tables};
 ghost use Rattle.reports.specs.Report.{report};

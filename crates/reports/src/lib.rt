@@ -1,4 +1,6 @@
 // W-202, the cost report: what a list of charges comes to for each caller, of any state and any list.
+#![tactic(auto)]
+
 ghost use Rattle.std.specs.Prelude.{◌≡◌, ◌+ℤ◌, cond};
 ghost use Rattle.std.specs.Int.{w64};
 ghost use Rattle.std.proofs.Common.{SFits};

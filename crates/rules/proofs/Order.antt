@@ -4,7 +4,7 @@ use Prim.Native.Nat.{ℕ, ◌*◌, ◌≤◌, ◌<◌}
 use native.Mathlib.Omega.{arith}
 use mathlib.Core.Path.{◌≡◌, refl}
 use mathlib.Core.Bool.{Bool, true, false, cond}
-use mathlib.Core.List.{List, ◌∷◌, ◌++◌}
+use mathlib.Core.List.{List, [], ◌∷◌, ◌++◌}
 use lib.Dec.{leb}
 use borrow.Author.Tests.{leb-true}
 use Rattle.numbers.specs.Tests.{and_l, and_r}
@@ -24,6 +24,7 @@ use Rattle.rules.specs.Order.{in_order_from, in_order, Applies, first, later, Lo
 -- what applies in a list in order stands no lower than where the list begins
 at_least : (n : ℕ) (l : List Check) → in_order_from n l ≡ true → (why : Refusal) → Applies why l → n ≤ precedence why
 unfolding in_order_from
+at_least n [] h why a = elim a [ ]
 at_least n ((w when b) ∷ l) h why (first r) = leb-true n (precedence w) (and_l (leb n (precedence w)) (in_order_from (precedence w) l) h)
 at_least n ((w when b) ∷ l) h why (later c r a) =
     let here = leb-true n (precedence w) (and_l (leb n (precedence w)) (in_order_from (precedence w) l) h) in
@@ -32,6 +33,7 @@ at_least n ((w when b) ∷ l) h why (later c r a) =
 -- the first that applies is the lowest
 pub lowest_given : (n : ℕ) (l : List Check) (d : Effect) → in_order_from n l ≡ true → (why : Refusal) → Applies why l → LowestGiven l d why
 unfolding in_order_from checked
+lowest_given n [] d h why a = elim a [ ]
 lowest_given n ((w when true) ∷ l) d h why (first r) = record { given = w; is = refl; lowest = omega arith }
 lowest_given n ((w when true) ∷ l) d h why (later c r a) =
     record { given = w; is = refl; lowest = at_least (precedence w) l (and_r (leb n (precedence w)) (in_order_from (precedence w) l) h) why a }

@@ -1,5 +1,7 @@
 // What is sought and counted in the tables: the lowest cell, entry or slot of a kind, and how many there are. Each function takes the one table
 // that it walks over and says what it finds of any tables t that have this one; past the last worker all is free.
+#![tactic(auto)]
+
 ghost use Rattle.std.specs.Prelude.{◌≡◌, ◌||◌};
 ghost use Rattle.numbers.specs.Below.{lowest};
 ghost use Rattle.tables.specs.Machine.{Tables, eight};

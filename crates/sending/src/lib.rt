@@ -1,4 +1,6 @@
 // The calls that send a message: export, indirect, transfer, drop, read and ask, each equal to its rule for all states and all numbers.
+#![tactic(auto)]
+
 ghost use Rattle.std.specs.Prelude.{◌≡◌};
 ghost use Rattle.tables.specs.Machine.{eight, tables};
 ghost use Rattle.rules.specs.Answers.{made, reply};

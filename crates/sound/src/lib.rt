@@ -1,4 +1,6 @@
 // The soundness test, and the first broken point.
+#![tactic(auto)]
+
 ghost use Rattle.std.specs.Prelude.{◌≡◌};
 ghost use Rattle.tables.specs.Machine.{eight, tables};
 ghost use Rattle.states.specs.Sound.{sound, first_broken};

@@ -1,5 +1,7 @@
 // Puts hand-made states to the soundness test and writes, for each, its name and the first broken point, 0 where the state is sound.
 // Most are a small change of one busy state that is sound; the points before the one shown hold.
+#![tactic(auto)]
+
 use cases_parts::{answer, ask, ex, idle, live, read, reference, release, supply, tainted};
 use changes::all_free;
 use lookups::{put_cell, put_entry, put_message};

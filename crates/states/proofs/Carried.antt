@@ -76,7 +76,7 @@ module _ (𝓜 : Machine) (s : Tables) (h : Move) (F : Facts 𝓜 s) (K : Keeps 
   module _ (C : Carries 𝓜 s h) where
     answers_kept : ((j : ℕ) → AnswerFact 𝓜 s (message s j)) → (j : ℕ) → AnswerFact 𝓜 (next 𝓜 s h) (message (next 𝓜 s h) j)
     answers_kept old =
-        messages_all 𝓜 s h F.sized K.placed (AnswerFact 𝓜 (next 𝓜 s h)) (λ j. (message_kept j (message s j) refl).1 (old j)) C.Answer-Ok
+        messages_all 𝓜 s h F.sized K.placed (AnswerFact 𝓜 (next 𝓜 s h)) (λ j. (message_kept j (message s j) refl).1 (old j)) C.answer_ok
 
     known_after : ((v d : ℕ) → KnownFact 𝓜 s (cell 𝓜 s v d)) → (v d : ℕ) → KnownFact 𝓜 (next 𝓜 s h) (cell 𝓜 (next 𝓜 s h) v d)
     known_after old v d =

@@ -1,4 +1,6 @@
 // The sizes and weights of document 01, the highest caller of W-201, and the types of their forms: the state, a call, its answer.
+#![tactic(auto)]
+
 
 // How many workers at most, cells and entries a worker, and message slots.
 pub const WORKERS: u8 = 8;
@@ -29,7 +31,7 @@ pub const CEILING: u32 = 1048576;
 pub const LAST_CALLER: u32 = 255;
 
 // An EX is idle, reading, or known with its value.
-#[derive(Drop)]
+#[derive(Clone, Copy)]
 pub enum Status {
     Idle,
     Reading,
@@ -38,7 +40,7 @@ pub enum Status {
 
 // What a cell holds. A VAR and a VAL carry the caller who pays for their time; a REF names a cell of the same worker, an EX an entry of its
 // owner's.
-#[derive(Drop)]
+#[derive(Clone, Copy)]
 pub enum Kind {
     Free,
     Var {
@@ -58,13 +60,13 @@ pub enum Kind {
     },
 }
 
-#[derive(Drop)]
+#[derive(Clone, Copy)]
 pub struct Cell {
     pub kind: Kind,
 }
 
 // What an export entry holds.
-#[derive(Drop)]
+#[derive(Clone, Copy)]
 pub enum Holding {
     Unused,
     Live {
@@ -74,13 +76,13 @@ pub enum Holding {
     },
 }
 
-#[derive(Drop)]
+#[derive(Clone, Copy)]
 pub struct Entry {
     pub holding: Holding,
 }
 
 // What a message slot holds.
-#[derive(Drop)]
+#[derive(Clone, Copy)]
 pub enum Message {
     Empty,
     Reference {
@@ -118,7 +120,7 @@ pub enum Message {
     },
 }
 
-#[derive(Drop)]
+#[derive(Clone, Copy)]
 pub struct Slot {
     pub message: Message,
 }
@@ -130,7 +132,7 @@ pub type EntryTable = [Entry; ALL_ENTRIES];
 pub type SlotTable = [Slot; ALL_SLOTS];
 
 // P workers; cell c of worker w stands at w * CELL_ROW + c, entry e at w * ENTRY_ROW + e.
-#[derive(Drop)]
+#[derive(Clone, Copy)]
 pub struct State {
     pub p: u8,
     pub cells: CellTable,
@@ -139,14 +141,14 @@ pub struct State {
 }
 
 // Where a walk along references stands: at an entry of an owner's, or nowhere.
-#[derive(Drop)]
+#[derive(Clone, Copy)]
 pub enum Place {
     Nowhere,
     At { owner: u8, entry: u8 },
 }
 
 // The calls, with their arguments.
-#[derive(Drop)]
+#[derive(Clone, Copy)]
 pub enum Call {
     Start { p: u8 },
     New { w: u8, caller: u32 },
@@ -163,7 +165,7 @@ pub enum Call {
 }
 
 // Why a call or a report is refused, in the order of the refusal numbers.
-#[derive(Drop)]
+#[derive(Clone, Copy)]
 pub enum Refusal {
     WorkerCount,
     NotSound,
@@ -185,7 +187,7 @@ pub enum Refusal {
 }
 
 // A call's answer: done with a value, sent with its slot, or without a value.
-#[derive(Drop)]
+#[derive(Clone, Copy)]
 pub enum Outcome {
     Done(u32),
     Sent(u8),
@@ -195,7 +197,7 @@ pub enum Outcome {
 }
 
 // What a call changes: nothing, a cell, a slot, or a slot and a cell or an entry.
-#[derive(Drop)]
+#[derive(Clone, Copy)]
 pub enum Change {
     Nothing,
     OfCell {
@@ -224,28 +226,28 @@ pub enum Change {
 }
 
 // What a call does: its answer, and what it changes.
-#[derive(Drop)]
+#[derive(Clone, Copy)]
 pub struct Effect {
     pub outcome: Outcome,
     pub change: Change,
 }
 
 // An entry to use: its number, and what it holds.
-#[derive(Drop)]
+#[derive(Clone, Copy)]
 pub struct Used {
     pub number: u8,
     pub holding: Holding,
 }
 
 // The room for a Reference at a worker: its free cells, the References booked there, and the lowest empty slot.
-#[derive(Drop)]
+#[derive(Clone, Copy)]
 pub struct Room {
     pub free: u8,
     pub booked: u8,
     pub slot: u8,
 }
 
-#[derive(Drop)]
+#[derive(Clone, Copy)]
 pub struct Reply {
     pub outcome: Outcome,
     pub state: State,

@@ -1,4 +1,6 @@
 // The text program's work: every line of a text is read through one reader, run, and answered into a lent buffer.
+#![tactic(auto)]
+
 ghost use Rattle.std.specs.Prelude.{◌≡◌, ◌++◌, ◌+◌, ◌*◌, ◌≤◌, length, drop};
 ghost use Rattle.tables.specs.Machine.{eight, tables, state};
 ghost use Rattle.rules.specs.Calls.{closed};

@@ -1,4 +1,6 @@
 // Point 4 of a sound state: reading and asking EX and their messages, and what messages name.
+#![tactic(auto)]
+
 ghost use Rattle.std.specs.Prelude.{◌≡◌};
 ghost use Rattle.tables.specs.Machine.{eight, tables};
 ghost use Rattle.states.specs.Sound.{reads_for, asks_for, each_cell, each_message, cell_awaited, message_has_its, point4};

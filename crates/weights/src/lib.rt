@@ -1,4 +1,6 @@
 // Points 5 and 6 of a sound state: weights are what is held, and there is room for what is booked.
+#![tactic(auto)]
+
 ghost use Rattle.std.specs.Prelude.{◌≡◌, cond};
 ghost use Rattle.tables.specs.Machine.{Tables, eight, tables};
 ghost use Rattle.states.specs.Sound.{cell_holds, point5, point6};
