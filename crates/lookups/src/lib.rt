@@ -17,6 +17,7 @@ use tables::{
 // ---- what stands in the tables
 
 // What the cell c of worker w holds.
+#[tactic(auto, unfolding(tables::specs::Look::cell))]
 pub fn cell_at(cells: CellTable, w: u8, c: u8) -> Kind
     ensures { (t : Tables) → t.cells ≡ cells → result ≡ cell eight t w c }
 {
@@ -31,6 +32,7 @@ pub fn cell_at(cells: CellTable, w: u8, c: u8) -> Kind
 }
 
 // What the entry e of worker w holds.
+#[tactic(auto, unfolding(tables::specs::Look::entry))]
 pub fn entry_at(entries: EntryTable, w: u8, e: u8) -> Holding
     ensures { (t : Tables) → t.entries ≡ entries → result ≡ entry eight t w e }
 {
@@ -45,6 +47,7 @@ pub fn entry_at(entries: EntryTable, w: u8, e: u8) -> Holding
 }
 
 // What the slot k holds.
+#[tactic(auto, using(crate::specs::Past::message_past))]
 pub fn message_at(slots: SlotTable, k: u8) -> Message
     ensures { (t : Tables) → t.slots ≡ slots → result ≡ message t k }
 {
@@ -58,6 +61,7 @@ pub fn message_at(slots: SlotTable, k: u8) -> Message
 // ---- the state with one part changed
 
 // The state with k in the cell c of worker w.
+#[tactic(auto, unfolding(tables::specs::Look::put_cell))]
 pub fn put_cell(s: State, w: u8, c: u8, k: Kind) -> State
     ensures { result ≡ state (put_cell eight (tables s) w c k) }
 {
@@ -73,6 +77,7 @@ pub fn put_cell(s: State, w: u8, c: u8, k: Kind) -> State
 }
 
 // The state with x in the entry e of worker w.
+#[tactic(auto, unfolding(tables::specs::Look::put_entry))]
 pub fn put_entry(s: State, w: u8, e: u8, x: Holding) -> State
     ensures { result ≡ state (put_entry eight (tables s) w e x) }
 {
@@ -88,6 +93,7 @@ pub fn put_entry(s: State, w: u8, e: u8, x: Holding) -> State
 }
 
 // The state with m in the slot k.
+#[tactic(auto, using(crate::specs::Past::put_message_past), unfolding(tables::specs::Look::put_message))]
 pub fn put_message(s: State, k: u8, m: Message) -> State
     ensures { result ≡ state (put_message (tables s) k m) }
 {
@@ -102,7 +108,7 @@ pub fn put_message(s: State, k: u8, m: Message) -> State
 // ---- a cell's end, and a safe EX
 
 // What a call looks at in a cell: what it holds, the number of its end, and what the end holds.
-#[derive(Drop)]
+#[derive(Clone, Copy)]
 pub struct Seen {
     pub kind: Kind,
     pub end: u8,
@@ -110,6 +116,7 @@ pub struct Seen {
 }
 
 // The cell c of worker w, and its end.
+#[tactic(auto, unfolding(tables::specs::Look::cell, tables::specs::Look::end, tables::specs::Look::end_kind))]
 pub fn see(cells: CellTable, w: u8, c: u8) -> Seen
     ensures { (t : Tables) → t.cells ≡ cells → result ≡ seen eight t w c }
 {
@@ -144,6 +151,7 @@ pub fn see(cells: CellTable, w: u8, c: u8) -> Seen
 }
 
 // k is an EX that is safe at worker w.
+#[tactic(auto, unfolding(tables::specs::Look::safe))]
 pub fn is_safe(entries: EntryTable, w: u8, k: Kind) -> bool
     ensures { (t : Tables) → t.entries ≡ entries → result ≡ safe eight t w k }
 {

@@ -10,6 +10,7 @@ ghost use Rattle.places.specs.Places.{cell_index, cell_seen, place_index, place_
 use tables::{CELL_ROW, CELLS, ENTRIES, ENTRY_ROW, Holding, Kind, Message, Place, WORKERS};
 
 // Where the cell c of worker w is read.
+#[tactic(auto, unfolding(crate::specs::Places::cell_index))]
 pub fn cell_index(w: u8, c: u8) -> usize
     ensures value { result ≡ cell_index eight w c }
     ensures upper_bound { result < 256 }
@@ -24,6 +25,7 @@ pub fn cell_index(w: u8, c: u8) -> usize
 }
 
 // What the cell c of worker w holds, where k is read.
+#[tactic(auto, unfolding(crate::specs::Places::cell_seen))]
 pub fn cell_seen(w: u8, c: u8, k: Kind) -> Kind
     ensures { result ≡ cell_seen eight w c k }
 {
@@ -36,6 +38,7 @@ pub fn cell_seen(w: u8, c: u8, k: Kind) -> Kind
     k
 }
 
+#[tactic(auto, unfolding(crate::specs::Places::place_index))]
 fn entry_index(w: u8, e: u8) -> usize
     ensures value { result ≡ place_index eight (At w e) }
     ensures upper_bound { result < 128 }
@@ -49,6 +52,7 @@ fn entry_index(w: u8, e: u8) -> usize
     w as usize * ENTRY_ROW + e as usize
 }
 
+#[tactic(auto, unfolding(crate::specs::Places::place_seen))]
 fn entry_seen(w: u8, e: u8, x: Holding) -> Holding
     ensures { result ≡ place_seen eight (At w e) x }
 {
@@ -62,6 +66,7 @@ fn entry_seen(w: u8, e: u8, x: Holding) -> Holding
 }
 
 // Where the entry at the place p is read.
+#[tactic(auto, unfolding(crate::specs::Places::place_index))]
 pub fn place_index(p: Place) -> usize
     ensures value { result ≡ place_index eight p }
     ensures upper_bound { result < 128 }
@@ -73,6 +78,7 @@ pub fn place_index(p: Place) -> usize
 }
 
 // What the entry at the place p holds, where x is read.
+#[tactic(auto, unfolding(crate::specs::Places::place_seen))]
 pub fn place_seen(p: Place, x: Holding) -> Holding
     ensures { result ≡ place_seen eight p x }
 {

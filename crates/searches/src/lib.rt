@@ -19,7 +19,7 @@ use tables::{
 // ---- the lowest cell that is sought
 
 // What is sought among a worker's cells: a free one, the REF to a cell, the EX of an entry.
-#[derive(Drop)]
+#[derive(Clone, Copy)]
 enum SoughtCell {
     FreeCell,
     RefTo(u8),
@@ -38,6 +38,7 @@ fn is_sought(q: SoughtCell, k: Kind) -> bool
 }
 
 // The lowest such cell of worker w, 32 where there is none.
+#[tactic(auto, using(crate::specs::Laws::cells_found, crate::specs::Laws::cells_past, loops::specs::Searching::loops, loops::specs::Searching::seek_start))]
 fn lowest_cell(cells: CellTable, w: u8, q: SoughtCell) -> u8
     ensures { (t : Tables) → t.cells ≡ cells → result ≡ lowest 32 (λ c. is_sought q (cell eight t w c)) }
 {
@@ -58,6 +59,7 @@ fn lowest_cell(cells: CellTable, w: u8, q: SoughtCell) -> u8
 }
 
 // The lowest free cell of worker w, 32 where there is none.
+#[tactic(auto, unfolding(tables::specs::Look::lowest_free_cell))]
 pub fn lowest_free_cell(cells: CellTable, w: u8) -> u8
     ensures { (t : Tables) → t.cells ≡ cells → result ≡ lowest_free_cell eight t w }
 {
@@ -65,6 +67,7 @@ pub fn lowest_free_cell(cells: CellTable, w: u8) -> u8
 }
 
 // A REF of worker w names its cell c.
+#[tactic(auto, unfolding(tables::specs::Look::referred))]
 fn is_referred(cells: CellTable, w: u8, c: u8) -> bool
     ensures { (t : Tables) → t.cells ≡ cells → result ≡ referred eight t w c }
 {
@@ -72,6 +75,7 @@ fn is_referred(cells: CellTable, w: u8, c: u8) -> bool
 }
 
 // The EX of worker w that names the entry e of worker o, 32 where there is none.
+#[tactic(auto, unfolding(tables::specs::Look::ex_naming))]
 pub fn ex_naming(cells: CellTable, w: u8, o: u8, e: u8) -> u8
     ensures { (t : Tables) → t.cells ≡ cells → result ≡ ex_naming eight t w o e }
 {
@@ -81,7 +85,7 @@ pub fn ex_naming(cells: CellTable, w: u8, o: u8, e: u8) -> u8
 // ---- the lowest entry that is sought
 
 // What is sought among a worker's entries: a free one, the live one of a cell.
-#[derive(Drop)]
+#[derive(Clone, Copy)]
 enum SoughtEntry {
     FreeEntry,
     EntryOf(u8),
@@ -98,6 +102,7 @@ fn is_sought_entry(q: SoughtEntry, x: Holding) -> bool
 }
 
 // The lowest such entry of worker w, 16 where there is none.
+#[tactic(auto, using(crate::specs::Laws::entries_found, crate::specs::Laws::entries_past, loops::specs::Searching::loops, loops::specs::Searching::seek_start))]
 fn lowest_entry(entries: EntryTable, w: u8, q: SoughtEntry) -> u8
     ensures { (t : Tables) → t.entries ≡ entries → result ≡ lowest 16 (λ e. is_sought_entry q (entry eight t w e)) }
 {
@@ -118,6 +123,7 @@ fn lowest_entry(entries: EntryTable, w: u8, q: SoughtEntry) -> u8
 }
 
 // The lowest free entry of worker w, 16 where there is none.
+#[tactic(auto, unfolding(tables::specs::Look::lowest_free_entry))]
 pub fn lowest_free_entry(entries: EntryTable, w: u8) -> u8
     ensures { (t : Tables) → t.entries ≡ entries → result ≡ lowest_free_entry eight t w }
 {
@@ -125,6 +131,7 @@ pub fn lowest_free_entry(entries: EntryTable, w: u8) -> u8
 }
 
 // The live entry of worker w that names its cell c, 16 where there is none.
+#[tactic(auto, unfolding(tables::specs::Look::entry_of))]
 pub fn entry_of(entries: EntryTable, w: u8, c: u8) -> u8
     ensures { (t : Tables) → t.entries ≡ entries → result ≡ entry_of eight t w c }
 {
@@ -132,6 +139,7 @@ pub fn entry_of(entries: EntryTable, w: u8, c: u8) -> u8
 }
 
 // A live entry of worker w names its cell c.
+#[tactic(auto, unfolding(tables::specs::Look::exported))]
 pub fn is_exported(entries: EntryTable, w: u8, c: u8) -> bool
     ensures { (t : Tables) → t.entries ≡ entries → result ≡ exported eight t w c }
 {
@@ -149,6 +157,7 @@ pub fn is_busy(cells: CellTable, entries: EntryTable, w: u8, c: u8, k: Kind) -> 
 }
 
 // The lowest empty slot, 64 where there is none.
+#[tactic(auto, using(loops::specs::Searching::loops), unfolding(tables::specs::Look::lowest_empty_slot))]
 pub fn lowest_empty_slot(slots: SlotTable) -> u8
     ensures { (t : Tables) → t.slots ≡ slots → result ≡ lowest_empty_slot eight t }
 {
@@ -165,6 +174,7 @@ pub fn lowest_empty_slot(slots: SlotTable) -> u8
 // ---- counts
 
 // How many cells of worker w are free.
+#[tactic(auto, using(crate::specs::Laws::bit_small, crate::specs::Laws::cells_count, crate::specs::Laws::cells_count_past, loops::specs::Searching::count_end, loops::specs::Searching::loops), unfolding(tables::specs::Look::free_cells))]
 pub fn free_cells(cells: CellTable, w: u8) -> u8
     ensures { (t : Tables) → t.cells ≡ cells → result ≡ free_cells eight t w }
 {
@@ -181,6 +191,7 @@ pub fn free_cells(cells: CellTable, w: u8) -> u8
 }
 
 // How many Reference messages go to worker w.
+#[tactic(auto, using(crate::specs::Laws::bit_small, crate::specs::Laws::count_total, loops::specs::Searching::count_end, loops::specs::Searching::loops), unfolding(tables::specs::Look::booked))]
 pub fn booked(slots: SlotTable, w: u8) -> u8
     ensures { (t : Tables) → t.slots ≡ slots → result ≡ booked t w }
 {
@@ -194,6 +205,7 @@ pub fn booked(slots: SlotTable, w: u8) -> u8
 }
 
 // How many entries are live.
+#[tactic(auto, using(crate::specs::Laws::bit_small, crate::specs::Laws::count_total, loops::specs::Searching::count_end, loops::specs::Searching::loops), unfolding(tables::specs::Look::live_entries))]
 pub fn live_entries(entries: EntryTable) -> u8
     ensures { (t : Tables) → t.entries ≡ entries → result ≡ live_entries t }
 {
