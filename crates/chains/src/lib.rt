@@ -11,13 +11,13 @@ ghost use Rattle.chains.specs.Hops.{Followed, next_seen, step_by};
 use tables::{ALL_ENTRIES, ENTRIES, ENTRY_ROW, Place, State, WORKERS};
 
 // Where one step leads.
-#[derive(Drop)]
+#[derive(Clone, Copy)]
 pub struct Hop {
     pub next: Place,
 }
 
 // The hops of all entries, entry e of worker w at w * ENTRY_ROW + e.
-#[derive(Drop)]
+#[derive(Clone, Copy)]
 pub struct Hops {
     pub hops: [Hop; ALL_ENTRIES],
 }
@@ -56,6 +56,7 @@ pub fn hops_of(s: State) -> Hops
     t
 }
 
+#[tactic(auto, unfolding(crate::specs::Hops::next_seen))]
 fn next_at(o: u8, e: u8, next: Place) -> Place
     ensures { result ≡ next_seen eight (At o e) next }
 {
@@ -69,6 +70,7 @@ fn next_at(o: u8, e: u8, next: Place) -> Place
 }
 
 // The place after p, where `next` is read in the table of hops.
+#[tactic(auto, unfolding(crate::specs::Hops::next_seen))]
 fn next_seen(p: Place, next: Place) -> Place
     ensures { result ≡ next_seen eight p next }
 {

@@ -8,6 +8,7 @@ ghost use Rattle.states.specs.Sound.{sound, first_broken};
 use tables::State;
 
 // The place, 1 to 6, of the first broken point; 0 where none is.
+#[tactic(auto, using(crate::specs::InTurn::broken, crate::specs::InTurn::kept), unfolding(states::specs::Sound::first_broken))]
 pub fn first_broken(s: State) -> u8
     ensures { result ≡ first_broken eight (tables s) }
 {
@@ -32,6 +33,7 @@ pub fn first_broken(s: State) -> u8
     0
 }
 
+#[tactic(auto, using(crate::specs::InTurn::none_broken))]
 pub fn is_sound(s: State) -> bool
     ensures { result ≡ sound eight (tables s) }
 {

@@ -1,0 +1,10 @@
+-- The loop of `chains::reached`: how far it has come.
+use Rattle.numbers.specs.Below.{walk_meets}
+use Rattle.tables.specs.Machine.{eight}
+use Rattle.tables.specs.Parts.{is_at}
+use Rattle.loops.specs.Walking.{Walking}
+use Rattle.chains.specs.Hops.{step_by}
+use Rattle.chains.proofs.reached.Given as goal
+
+abbrev pub invariant-loop-i : goal.invariant-loop-i
+invariant-loop-i l = Walking (is_at l.o l.e) (step_by eight l.t.hops) 128 l.i l.at (walk_meets (is_at l.o l.e) (step_by eight l.t.hops) 128 l.initial.at)
