@@ -43,7 +43,6 @@ fn asks_for(w: u8, c: u8, m: Message) -> bool
 }
 
 // Every cell that waits has its message, and no second one.
-#[tactic(auto, using(crate::specs::Waits::cell_awaited_by, crate::specs::Waits::nothing_awaited, loops::specs::Passing::pass_each, loops::specs::Passing::pass_over, loops::specs::Passing::pass_start, loops::specs::Passing::pass_step, loops::specs::Searching::count_end, loops::specs::Searching::count_start, loops::specs::Searching::count_step, searches::specs::Laws::bit_small))]
 fn cells_awaited(s: State) -> bool
     ensures { result ≡ each_cell eight (tables s) (cell_awaited eight (tables s)) }
 {
@@ -126,7 +125,6 @@ fn message_has_its(t: Hops, m: Message, k: Kind, x: Holding) -> bool
 }
 
 // Every message has its EX and names what it may.
-#[tactic(auto, using(crate::specs::Waits::empty_has, crate::specs::Waits::message_has_by, loops::specs::Passing::pass_each, loops::specs::Passing::pass_over, loops::specs::Passing::pass_start, loops::specs::Passing::pass_step, places::specs::Places::cell_read, places::specs::Places::entry_read))]
 fn messages_have_theirs(s: State) -> bool
     ensures { result ≡ each_message eight (tables s) (message_has_its eight (tables s)) }
 {

@@ -83,7 +83,6 @@ fn weighs(x: Holding, n: u64) -> bool
     }
 }
 
-#[tactic(auto, using(crate::specs::Held::entry_weighs_by, crate::specs::Held::message_holds_by, crate::specs::Held::nothing_held_lem, crate::specs::Held::unused_weighs, loops::specs::Passing::pass_each, loops::specs::Passing::pass_over, loops::specs::Passing::pass_start, loops::specs::Passing::pass_step, loops::specs::Summing::add_end, loops::specs::Summing::add_over, loops::specs::Summing::add_start, loops::specs::Summing::add_step, places::specs::Places::cell_read), unfolding(states::specs::Sound::point5))]
 pub fn point_5(s: State) -> bool
     ensures { result ≡ point5 eight (tables s) }
 {
@@ -123,7 +122,6 @@ pub fn point_5(s: State) -> bool
 
 // ---- point 6
 
-#[tactic(auto, using(loops::specs::Passing::pass_end, loops::specs::Passing::pass_start, loops::specs::Passing::pass_step, loops::specs::Searching::count_end, loops::specs::Searching::count_start, loops::specs::Searching::count_step, places::specs::Places::cell_read, searches::specs::Laws::bit_small, searches::specs::Laws::count_total), unfolding(states::specs::Sound::point6, tables::specs::Look::booked, tables::specs::Look::free_cells))]
 pub fn point_6(s: State) -> bool
     ensures { result ≡ point6 eight (tables s) }
 {
