@@ -2,7 +2,7 @@
 use Rattle.loops.specs.Searching.{Counting}
 use Rattle.tables.specs.Machine.{eight, tables}
 use Rattle.tables.specs.Parts.{is_free, goes_to}
-use Rattle.tables.specs.Look.{cell, message_at, booked}
+use Rattle.tables.specs.Look.{cell, message_at}
 use Rattle.states.specs.Sound.{room_for_booked}
 use Rattle.loops.specs.Passing.{Passing}
 use Rattle.weights.proofs.point_6.Given as goal
