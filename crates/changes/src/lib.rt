@@ -20,6 +20,7 @@ use tables::{
 };
 
 // P workers, everything free.
+#[tactic(auto, unfolding(rules::specs::Calls::all_free))]
 pub fn all_free(p: u8) -> State
     ensures { result ≡ state (all_free eight p) }
 {
@@ -39,6 +40,7 @@ pub fn all_free(p: u8) -> State
 }
 
 // The sum of two weights. In a sound state no weight passes the ceiling; where one does, the answer is not used.
+#[tactic(auto, unfolding(crate::specs::BelowCeiling::added))]
 pub fn add_weights(a: u32, b: u32) -> u32
     ensures { result ≡ added a b }
 {
@@ -205,6 +207,7 @@ fn bound_to_ex(y: u8, k: Kind, st: Status) -> Kind
 }
 
 // And where it is bound to the end y, which holds ex; a REF where that is no EX: that is refused, and the answer is not used.
+#[tactic(auto, using(parts::proofs::Others::not_ex_lem))]
 pub fn bound_to(y: u8, k: Kind, ex: Kind) -> Kind
     ensures { result ≡ bound_to y k ex }
 {
@@ -217,6 +220,7 @@ pub fn bound_to(y: u8, k: Kind, ex: Kind) -> Kind
 // ---- export, indirect, transfer
 
 // The number of the entry of the cell c, or of the lowest free one.
+#[tactic(auto, unfolding(rules::specs::Refusals::entry_to_use, tables::specs::Look::exported))]
 fn entry_to_use(entries: EntryTable, w: u8, c: u8) -> u8
     ensures { (t : Tables) → t.entries ≡ entries → result ≡ entry_to_use eight t w c }
 {
@@ -240,6 +244,7 @@ pub fn use_entry(entries: EntryTable, w: u8, c: u8) -> Used
 }
 
 // The entry that a cell c exported by location uses: made with this taint, or with 1,024 gained.
+#[tactic(auto, using(crate::specs::BelowCeiling::added_is))]
 fn gains(c: u8, taint: bool, x: Holding) -> Holding
     ensures { entry_weight x ≤ 1048576 → result ≡ gains 1024 c taint x }
 {
@@ -278,6 +283,7 @@ pub fn by_location(w: u8, x: u8, to: u8, taint: bool, u: Used, slot: u8) -> Effe
 }
 
 // What an EX keeps and what it sends: half its weight, rounded down, is sent.
+#[tactic(auto, using(parts::proofs::Others::not_ex_lem))]
 fn keeps(k: Kind) -> Kind
     ensures { result ≡ keeps eight k }
 {
@@ -299,6 +305,7 @@ fn keeps(k: Kind) -> Kind
     }
 }
 
+#[tactic(auto, using(parts::proofs::Others::not_ex_lem))]
 fn sends(to: u8, k: Kind) -> Message
     ensures { result ≡ sends eight to k }
 {
@@ -338,6 +345,7 @@ pub fn export_end(w: u8, x: u8, to: u8, k: Kind, u: Used, slot: u8) -> Effect
 }
 
 // A transferred EX sends its whole weight as a Reference.
+#[tactic(auto, using(parts::proofs::Others::not_ex_lem))]
 fn sends_whole(to: u8, k: Kind) -> Message
     ensures { result ≡ sends_whole to k }
 {
@@ -368,6 +376,7 @@ pub fn transferred(w: u8, c: u8, to: u8, ex: Kind, slot: u8) -> Effect
 // ---- drop
 
 // A dropped EX sends its whole weight as a Release.
+#[tactic(auto, using(parts::proofs::Others::not_ex_lem))]
 fn releases(k: Kind) -> Message
     ensures { result ≡ releases k }
 {
@@ -477,6 +486,7 @@ fn ask_ex(w: u8, x: u8, slot: u8, o: u8, e: u8, n: u32, st: Status, a: bool) -> 
 }
 
 // An ask that comes to the end x, which holds k.
+#[tactic(auto, using(parts::proofs::Others::not_ex_lem))]
 pub fn ask_at(w: u8, x: u8, k: Kind, slot: u8) -> Effect
     ensures { result ≡ ask_at w x k slot }
 {
