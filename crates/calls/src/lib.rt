@@ -12,6 +12,7 @@ use sending::{ask, drop, export, indirect, read, transfer};
 use tables::{Call, Reply, State};
 
 // Any of the twelve.
+#[tactic(auto, unfolding(rules::specs::Step::step))]
 pub fn step(s: State, q: Call) -> Reply
     ensures { result ≡ reply (step eight (tables s) q) }
 {

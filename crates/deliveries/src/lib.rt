@@ -34,6 +34,7 @@ fn is_ready(m: Message, end: Kind) -> bool
 }
 
 // The message m in the slot k, which comes to this end if it is a Read.
+#[tactic(auto, unfolding(rules::specs::Deliver::deliver_message, rules::specs::Deliver::deliver_read))]
 fn deliver_message(cells: CellTable, entries: EntryTable, k: u8, m: Message, end: Kind) -> Effect
     ensures { (t : Tables) → t.cells ≡ cells → t.entries ≡ entries → sound eight t ≡ true → message_weight m ≤ 1048576 → end ≡ read_end eight t m → result ≡ deliver_message eight t k m }
 {
@@ -72,6 +73,7 @@ fn deliver_message(cells: CellTable, entries: EntryTable, k: u8, m: Message, end
 }
 
 // The message in the slot is delivered.
+#[tactic(auto, using(changes::specs::BelowCeiling::message_weight_lem, quiet::specs::Verdicts::decides), unfolding(quiet::specs::Verdicts::along, rules::specs::Deliver::deliver, rules::specs::Refusals::ready))]
 pub fn deliver(s: State, slot: u8) -> Reply
     ensures { result ≡ reply (made eight (tables s) (deliver eight (tables s) slot)) }
 {

@@ -44,6 +44,7 @@ fn taken_off(w: u32, x: Holding) -> Holding
 }
 
 // The weight joins the EX, or the cell becomes such an EX, idle.
+#[tactic(auto, using(changes::specs::BelowCeiling::added_is, parts::proofs::Others::not_ex_lem))]
 fn joined(o: u8, e: u8, w: u32, k: Kind) -> Kind
     ensures { w ≤ 1048576 → ex_weight k ≤ 1048576 → result ≡ joined o e w k }
 {
@@ -73,6 +74,7 @@ fn joined(o: u8, e: u8, w: u32, k: Kind) -> Kind
 }
 
 // The EX is known with v.
+#[tactic(auto, using(parts::proofs::Others::not_ex_lem))]
 fn known(v: u32, k: Kind) -> Kind
     ensures { result ≡ known v k }
 {
@@ -95,6 +97,7 @@ fn known(v: u32, k: Kind) -> Kind
 }
 
 // Weight added, no longer asking.
+#[tactic(auto, using(changes::specs::BelowCeiling::added_is, parts::proofs::Others::not_ex_lem))]
 fn supplied(w: u32, k: Kind) -> Kind
     ensures { w ≤ 1048576 → ex_weight k ≤ 1048576 → result ≡ supplied w k }
 {
@@ -225,6 +228,7 @@ fn read_on(r: u8, c: u8, m: Message, k: Kind) -> Message
 // ---- each message, in the slot k
 
 // The cell of worker w where a Reference to the entry e of worker o arrives.
+#[tactic(auto, unfolding(rules::specs::Deliver::arrival_cell))]
 fn arrival_cell(cells: CellTable, w: u8, o: u8, e: u8) -> u8
     ensures { (t : Tables) → t.cells ≡ cells → result ≡ arrival_cell eight t w o e }
 {
@@ -236,6 +240,7 @@ fn arrival_cell(cells: CellTable, w: u8, o: u8, e: u8) -> u8
 }
 
 // A Reference at the owner.
+#[tactic(auto, unfolding(rules::specs::Deliver::deliver_home))]
 fn deliver_home(entries: EntryTable, k: u8, o: u8, e: u8, w: u32) -> Effect
     ensures { (t : Tables) → t.entries ≡ entries → result ≡ deliver_home eight t k o e w }
 {
@@ -246,6 +251,7 @@ fn deliver_home(entries: EntryTable, k: u8, o: u8, e: u8, w: u32) -> Effect
 }
 
 // A Reference elsewhere.
+#[tactic(auto, using(changes::specs::BelowCeiling::cell_weight), unfolding(rules::specs::Deliver::deliver_away))]
 fn deliver_away(cells: CellTable, k: u8, to: u8, o: u8, e: u8, w: u32) -> Effect
     ensures { (t : Tables) → t.cells ≡ cells → sound eight t ≡ true → w ≤ 1048576 → result ≡ deliver_away eight t k to o e w }
 {
@@ -254,6 +260,7 @@ fn deliver_away(cells: CellTable, k: u8, to: u8, o: u8, e: u8, w: u32) -> Effect
     with_cell_and_message(Outcome::Done(c as u32), to, c, ex, k, Message::Empty)
 }
 
+#[tactic(auto, unfolding(rules::specs::Deliver::deliver_message))]
 pub fn deliver_reference(
     cells: CellTable,
     entries: EntryTable,
@@ -271,6 +278,7 @@ pub fn deliver_reference(
     deliver_away(cells, k, to, o, e, w)
 }
 
+#[tactic(auto, unfolding(rules::specs::Deliver::deliver_release))]
 pub fn deliver_release(entries: EntryTable, k: u8, o: u8, e: u8, w: u32) -> Effect
     ensures { (t : Tables) → t.entries ≡ entries → result ≡ deliver_release eight t k o e w }
 {
@@ -298,6 +306,7 @@ pub fn deliver_read(k: u8, r: u8, c: u8, o: u8, e: u8, end: Kind) -> Effect
     }
 }
 
+#[tactic(auto, unfolding(rules::specs::Deliver::deliver_answer))]
 pub fn deliver_answer(cells: CellTable, k: u8, r: u8, c: u8, v: u32) -> Effect
     ensures { (t : Tables) → t.cells ≡ cells → result ≡ deliver_answer eight t k r c v }
 {
@@ -305,6 +314,7 @@ pub fn deliver_answer(cells: CellTable, k: u8, r: u8, c: u8, v: u32) -> Effect
     with_cell_and_message(Outcome::Done(c as u32), r, c, ex, k, Message::Empty)
 }
 
+#[tactic(auto, using(changes::specs::BelowCeiling::cell_weight), unfolding(rules::specs::Deliver::deliver_supply))]
 pub fn deliver_supply(cells: CellTable, k: u8, a: u8, c: u8, w: u32) -> Effect
     ensures { (t : Tables) → t.cells ≡ cells → sound eight t ≡ true → w ≤ 1048576 → result ≡ deliver_supply eight t k a c w }
 {
@@ -312,6 +322,7 @@ pub fn deliver_supply(cells: CellTable, k: u8, a: u8, c: u8, w: u32) -> Effect
     with_cell_and_message(Outcome::Done(c as u32), a, c, ex, k, Message::Empty)
 }
 
+#[tactic(auto, unfolding(rules::specs::Deliver::deliver_ask))]
 pub fn deliver_ask(entries: EntryTable, k: u8, a: u8, c: u8, o: u8, e: u8) -> Effect
     ensures { (t : Tables) → t.entries ≡ entries → result ≡ deliver_ask eight t k a c o e }
 {

@@ -15,6 +15,7 @@ use refusals::{bind_refusals, cell_refusals, state_refusal, worker_refusals};
 use tables::{LAST_CALLER, Outcome, Refusal, Reply, State, WORKERS};
 
 // P workers, all free.
+#[tactic(auto, unfolding(rules::specs::Calls::start))]
 pub fn start(p: u8) -> Reply
     ensures { result ≡ reply (start eight p) }
 {
@@ -27,6 +28,7 @@ pub fn start(p: u8) -> Reply
 }
 
 // The lowest free cell becomes a VAR of this caller.
+#[tactic(auto, using(crate::specs::Verdicts::decides), unfolding(crate::specs::Verdicts::along, rules::specs::Calls::new))]
 pub fn new(s: State, w: u8, caller: u32) -> Reply
     ensures { result ≡ reply (made eight (tables s) (new eight (tables s) w caller)) }
 {
@@ -42,6 +44,7 @@ pub fn new(s: State, w: u8, caller: u32) -> Reply
 }
 
 // VAR becomes VAL(n), and keeps its caller.
+#[tactic(auto, using(crate::specs::Verdicts::decides), unfolding(crate::specs::Verdicts::along, rules::specs::Calls::set))]
 pub fn set(s: State, w: u8, c: u8, n: u32) -> Reply
     ensures { result ≡ reply (made eight (tables s) (set eight (tables s) w c n)) }
 {
@@ -56,6 +59,7 @@ pub fn set(s: State, w: u8, c: u8, n: u32) -> Reply
 }
 
 // The VAR c becomes a REF to the end of x, an EX, and loses its caller; where the EX is known, a VAL with the known value that keeps it.
+#[tactic(auto, using(crate::specs::Verdicts::decides), unfolding(crate::specs::Verdicts::along, rules::specs::Calls::bind))]
 pub fn bind(s: State, w: u8, c: u8, x: u8) -> Reply
     ensures { result ≡ reply (made eight (tables s) (bind eight (tables s) w c x)) }
 {
@@ -72,6 +76,7 @@ pub fn bind(s: State, w: u8, c: u8, x: u8) -> Reply
 }
 
 // B: no more deliveries than this can succeed.
+#[tactic(auto, using(crate::specs::Verdicts::decides), unfolding(crate::specs::Verdicts::along, rules::specs::Calls::bound))]
 pub fn bound(s: State) -> Reply
     ensures { result ≡ reply (made eight (tables s) (bound eight (tables s))) }
 {

@@ -10,6 +10,7 @@ use numbers::both;
 use tables::{Kind, Refusal};
 
 // 2, of any call but start, in a state that is sound or not.
+#[tactic(auto, unfolding(crate::specs::Verdicts::along))]
 pub fn state_refusal(sound: bool) -> Verdict
     ensures { result ≡ along Go (not_sound sound ∷ []) }
 {
@@ -17,6 +18,7 @@ pub fn state_refusal(sound: bool) -> Verdict
 }
 
 // 2 and 3, of a call on worker w of p.
+#[tactic(auto, unfolding(crate::specs::Verdicts::along))]
 pub fn worker_refusals(sound: bool, p: u8, w: u8) -> Verdict
     ensures { result ≡ along Go (worker_lines sound p w) }
 {
@@ -24,6 +26,7 @@ pub fn worker_refusals(sound: bool, p: u8, w: u8) -> Verdict
 }
 
 // 2, 3 and 5, of a call on a cell of worker w that holds k.
+#[tactic(auto, unfolding(crate::specs::Verdicts::along))]
 pub fn cell_refusals(sound: bool, p: u8, w: u8, k: Kind) -> Verdict
     ensures { result ≡ along Go (cell_lines sound p w k) }
 {
@@ -31,6 +34,7 @@ pub fn cell_refusals(sound: bool, p: u8, w: u8, k: Kind) -> Verdict
 }
 
 // What bind tests of k, what c holds, and of x and its end; of c whether it has a live entry, and of an EX that is not known whether it is safe.
+#[tactic(auto, unfolding(crate::specs::Verdicts::along))]
 pub fn bind_refusals(
     sound: bool,
     p: u8,

@@ -4,7 +4,7 @@ ghost use Rattle.quiet.specs.Verdicts.{refuse_if, settled};
 
 use tables::{Change, Effect, Outcome, Refusal};
 
-#[derive(Drop)]
+#[derive(Clone, Copy)]
 pub enum Verdict {
     Go,
     Stop(Refusal),
@@ -12,6 +12,7 @@ pub enum Verdict {
 
 impl Verdict {
     // The first refusal stays.
+    #[tactic(auto, unfolding(crate::specs::Verdicts::refuse_if))]
     pub fn refuse_if(self, hit: bool, why: Refusal) -> Verdict
         ensures { result ≡ refuse_if self hit why }
     {
@@ -22,6 +23,7 @@ impl Verdict {
     }
 
     // What is done, or the refusal and nothing changed.
+    #[tactic(auto, unfolding(crate::specs::Verdicts::settled))]
     pub fn answer(self, done: Effect) -> Effect
         ensures { result ≡ settled self done }
     {

@@ -15,6 +15,7 @@ use refusals::{
 use tables::{Refusal, Reply, State};
 
 // The end of c is sent to worker `to`: by location, or an EX by reference.
+#[tactic(auto, using(changes::specs::BelowCeiling::entry_weight_lem, quiet::specs::Verdicts::decides), unfolding(quiet::specs::Verdicts::along, rules::specs::Calls::export, tables::specs::Look::end_kind))]
 pub fn export(s: State, w: u8, c: u8, to: u8) -> Reply
     ensures { result ≡ reply (made eight (tables s) (export eight (tables s) w c to)) }
 {
@@ -34,6 +35,7 @@ pub fn export(s: State, w: u8, c: u8, to: u8) -> Reply
 }
 
 // The EX at the end of c is sent by location.
+#[tactic(auto, using(changes::specs::BelowCeiling::entry_weight_lem, quiet::specs::Verdicts::decides), unfolding(quiet::specs::Verdicts::along, rules::specs::Calls::indirect))]
 pub fn indirect(s: State, w: u8, c: u8, to: u8) -> Reply
     ensures { result ≡ reply (made eight (tables s) (indirect eight (tables s) w c to)) }
 {
@@ -57,6 +59,7 @@ pub fn indirect(s: State, w: u8, c: u8, to: u8) -> Reply
 }
 
 // The EX c is freed, and its whole weight sent.
+#[tactic(auto, using(quiet::specs::Verdicts::decides), unfolding(quiet::specs::Verdicts::along, rules::specs::Calls::transfer, tables::specs::Look::busy))]
 pub fn transfer(s: State, w: u8, c: u8, to: u8) -> Reply
     ensures { result ≡ reply (made eight (tables s) (transfer eight (tables s) w c to)) }
 {
@@ -75,6 +78,7 @@ pub fn transfer(s: State, w: u8, c: u8, to: u8) -> Reply
 }
 
 // The cell c is freed; an EX sends its whole weight back.
+#[tactic(auto, using(quiet::specs::Verdicts::decides), unfolding(quiet::specs::Verdicts::along, rules::specs::Calls::drop, tables::specs::Look::busy))]
 pub fn drop(s: State, w: u8, c: u8) -> Reply
     ensures { result ≡ reply (made eight (tables s) (drop eight (tables s) w c)) }
 {
@@ -92,6 +96,7 @@ pub fn drop(s: State, w: u8, c: u8) -> Reply
 }
 
 // The value at the end of c, or a Read sent for it.
+#[tactic(auto, using(quiet::specs::Verdicts::decides), unfolding(quiet::specs::Verdicts::along, rules::specs::Calls::read))]
 pub fn read(s: State, w: u8, c: u8) -> Reply
     ensures { result ≡ reply (made eight (tables s) (read eight (tables s) w c)) }
 {
@@ -108,6 +113,7 @@ pub fn read(s: State, w: u8, c: u8) -> Reply
 }
 
 // An Ask for more weight is sent from the EX at the end of c.
+#[tactic(auto, using(quiet::specs::Verdicts::decides), unfolding(quiet::specs::Verdicts::along, rules::specs::Calls::ask))]
 pub fn ask(s: State, w: u8, c: u8) -> Reply
     ensures { result ≡ reply (made eight (tables s) (ask eight (tables s) w c)) }
 {

@@ -14,6 +14,7 @@ use tables::{CEILING, ENTRIES, FIRST_WEIGHT, Kind, Refusal, Room, SLOTS, Status,
 // ---- lists of refusals
 
 // What export, indirect and transfer test first.
+#[tactic(auto, unfolding(quiet::specs::Verdicts::along))]
 pub fn send_refusals(sound: bool, p: u8, w: u8, to: u8, k: Kind) -> Verdict
     ensures { result ≡ along Go (send_lines sound p w to k) }
 {
@@ -24,6 +25,7 @@ pub fn send_refusals(sound: bool, p: u8, w: u8, to: u8, k: Kind) -> Verdict
 }
 
 // 13, where a message is sent and this is the lowest empty slot.
+#[tactic(auto, unfolding(quiet::specs::Verdicts::along))]
 pub fn slot_refusal(v: Verdict, sends: bool, slot: u8) -> Verdict
     ensures { result ≡ along v (no_slot_if eight sends slot ∷ []) }
 {
@@ -31,6 +33,7 @@ pub fn slot_refusal(v: Verdict, sends: bool, slot: u8) -> Verdict
 }
 
 // 12 at the receiver, and 13.
+#[tactic(auto, unfolding(quiet::specs::Verdicts::along))]
 pub fn room_refusals(v: Verdict, room: Room) -> Verdict
     ensures { result ≡ along v (room_lines eight room) }
 {
@@ -39,6 +42,7 @@ pub fn room_refusals(v: Verdict, room: Room) -> Verdict
 }
 
 // 9, 12 and 13: the EX ex is exported by reference.
+#[tactic(auto, unfolding(quiet::specs::Verdicts::along))]
 fn by_reference_refusals(v: Verdict, ex: Kind, room: Room) -> Verdict
     ensures { result ≡ along v (by_reference_lines eight ex room) }
 {
@@ -47,6 +51,7 @@ fn by_reference_refusals(v: Verdict, ex: Kind, room: Room) -> Verdict
 }
 
 // 10 to 13: a cell is exported by location, with the entry u. One above 1,048,576 - 1,024 would pass the ceiling.
+#[tactic(auto, using(numbers::specs::Tests::bool_eq), unfolding(quiet::specs::Verdicts::along))]
 pub fn by_location_refusals(v: Verdict, u: Used, room: Room) -> Verdict
     ensures { result ≡ along v (by_location_lines eight u room) }
 {
@@ -73,6 +78,7 @@ pub fn end_refusals(v: Verdict, k: Kind, u: Used, room: Room) -> Verdict
 // ---- the tests behind them
 
 // A read that comes to this end sends a Read.
+#[tactic(auto, using(parts::proofs::Others::not_ex_lem))]
 pub fn read_sends(k: Kind) -> bool
     ensures { result ≡ read_sends k }
 {
