@@ -73,7 +73,6 @@ fn deliver_message(cells: CellTable, entries: EntryTable, k: u8, m: Message, end
 }
 
 // The message in the slot is delivered.
-#[tactic(auto, using(changes::specs::BelowCeiling::message_weight_lem, quiet::specs::Verdicts::decides), unfolding(quiet::specs::Verdicts::along, rules::specs::Deliver::deliver, rules::specs::Refusals::ready))]
 pub fn deliver(s: State, slot: u8) -> Reply
     ensures { result ≡ reply (made eight (tables s) (deliver eight (tables s) slot)) }
 {

@@ -15,7 +15,6 @@ use refusals::{
 use tables::{Refusal, Reply, State};
 
 // The end of c is sent to worker `to`: by location, or an EX by reference.
-#[tactic(auto, using(changes::specs::BelowCeiling::entry_weight_lem, quiet::specs::Verdicts::decides), unfolding(quiet::specs::Verdicts::along, rules::specs::Calls::export, tables::specs::Look::end_kind))]
 pub fn export(s: State, w: u8, c: u8, to: u8) -> Reply
     ensures { result ≡ reply (made eight (tables s) (export eight (tables s) w c to)) }
 {
