@@ -36,6 +36,7 @@ struct Fields {
 }
 
 // The value of a digit; 16 where the byte is none.
+#[tactic(auto, using(crate::proofs::Digits::digits))]
 fn digit_in(b: u8) -> u8
     ensures { result ≡ digit_in b }
 {
@@ -55,6 +56,7 @@ fn low_digit(n: u32) -> u8
 }
 
 // The number that up to sixteen digits say.
+#[tactic(auto, using(crate::proofs::Digits::parses))]
 fn parse(s: &[u8]) -> Number
     requires { length s.now ≤ 16 }
     ensures { result ≡ number_in s.now }
@@ -108,6 +110,7 @@ fn uses_only(f: Fields, bytes: u8, number: bool, call: Call) -> Decoded
 }
 
 // The frame by its call: how many of the bytes the call uses, whether the number, and what its arguments are.
+#[tactic(auto, unfolding(crate::specs::Frames::by_call))]
 fn frame_of(f: Fields) -> Decoded
     ensures { result ≡ frame_of f }
 {
@@ -134,6 +137,7 @@ fn frame_of(f: Fields) -> Decoded
 }
 
 // What a line says, without its newline.
+#[tactic(auto, unfolding(crate::specs::Frames::decode))]
 pub fn decode(line: &[u8]) -> Decoded
     ensures { result ≡ decode line.now }
 {
@@ -147,6 +151,7 @@ pub fn decode(line: &[u8]) -> Decoded
 }
 
 // Where the line that starts at a place ends: its newline's place, or the end of the text.
+#[tactic(auto, using(crate::proofs::Lines::seeks))]
 pub fn line_end(text: &[u8], at: usize) -> usize
     ensures { result ≡ line_end text.now at }
 {
