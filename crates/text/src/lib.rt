@@ -14,6 +14,7 @@ use reader::{Found, Reader};
 use tables::State;
 
 // Writes a line into out, from a place on.
+#[tactic(auto, using(frames::proofs::Written::writes))]
 fn put(out: &mut [u8], at: usize, line: [u8; 11])
     requires { at + 11 ≤ length out.old }
     ensures { out.new ≡ with_line out.old at line }
