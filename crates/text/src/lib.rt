@@ -62,6 +62,7 @@ fn run_lines(input: &[u8], out: &mut [u8]) -> usize
 }
 
 // The same, where the input is not too long; of one that is, the one line that says so.
+#[tactic(auto, using(frames::proofs::Written::line_length), unfolding(crate::specs::Text::run_text))]
 fn run_text(input: &[u8], out: &mut [u8]) -> usize
     requires { 11 * length input.now + 11 ≤ length out.old }
     ensures value { result ≡ length (run_text input.now) }
@@ -82,6 +83,7 @@ pub enum Ran {
 }
 
 // Runs a text from the closed state into a buffer, which has room where it has 11 bytes for each byte of the text and 11 more.
+#[tactic(auto, unfolding(crate::specs::Room::ran, crate::specs::Room::written))]
 pub fn run(input: &[u8], out: &mut [u8]) -> Ran
     ensures value { result ≡ ran input.now out.old }
     ensures out_after { out.new ≡ written input.now out.old }
