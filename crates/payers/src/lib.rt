@@ -36,6 +36,7 @@ fn caller_of(k: Kind) -> u16
 }
 
 // The place of the cell c of worker w in the table.
+#[tactic(auto, unfolding(crate::specs::Ways::table_place))]
 fn table_place(w: u8, c: u8) -> u16
     ensures { result ≡ table_place eight w c }
 {

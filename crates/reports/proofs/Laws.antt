@@ -73,6 +73,11 @@ within_charged 𝓜 b c n few ok f = go (is_caller who)
           near (b.unplaced +ℤ c.amount) (gains_near b.unplaced c.amount (count b) few' ok.2 f),
         )
 
+-- and so the books that are these
+pub within_next : (𝓜 : Machine) (b : Books) (c : Charge) {r : Books} → r ≡ charged_one 𝓜 b c → Within b 65534 → SFits w32 c.amount → Within r (count b + 1)
+within_next 𝓜 b c is ok f =
+    subst (λ (x : Books). Within x (count b + 1)) (sym is) (within_charged 𝓜 b c (count b) ok.0 (omega arith, ok.1, ok.2) f)
+
 -- ---- one charge, as the code books it: the sum fits, and the books are these
 module _ (b : Books) (c : Charge) (ok : Within b 65534) (f : SFits w32 c.amount) where
   few : count b ≤ 65535

@@ -1,13 +1,13 @@
 // W-202, the cost report: what a list of charges comes to for each caller, of any state and any list.
 #![tactic(auto)]
 
-ghost use Rattle.std.specs.Prelude.{◌≡◌, ◌+ℤ◌, cond};
+ghost use Rattle.std.specs.Prelude.{◌≡◌, ◌+◌, ◌+ℤ◌, cond};
 ghost use Rattle.std.specs.Int.{w64};
 ghost use Rattle.std.proofs.Common.{SFits};
 ghost use Rattle.tables.specs.Machine.{eight, tables};
 ghost use Rattle.rules.specs.Answers.{succeeds};
 ghost use Rattle.reports.specs.Report.{report};
-ghost use Rattle.reports.specs.Charging.{payer_seen, opened_of, charged_one, finished_of, Within};
+ghost use Rattle.reports.specs.Charging.{payer_seen, opened_of, charged_one, finished_of, count, Within};
 
 use payers::NOBODY;
 use tables::{ALL_CELLS, CELLS, Outcome, Refusal, State, WORKERS};
@@ -18,7 +18,7 @@ pub const CALLERS: usize = 256;
 pub const MOST_CHARGES: usize = 65535;
 
 // What a worker's work in a cell cost; a correction is negative.
-#[derive(Drop)]
+#[derive(Clone, Copy)]
 pub struct Charge {
     pub worker: u8,
     pub cell: u8,
@@ -36,7 +36,7 @@ pub struct CostReport {
 }
 
 // A report that is being made, beside who pays for each cell.
-#[derive(Drop)]
+#[derive(Clone, Copy)]
 pub struct Books {
     pub outcome: Outcome,
     pub payers: [u16; ALL_CELLS],
@@ -91,6 +91,7 @@ fn plus(total: i64, amount: i32) -> i64
 }
 
 // Who pays for the cell c of worker w, where `who` is read.
+#[tactic(auto, unfolding(crate::specs::Charging::payer_seen))]
 fn payer_seen(w: u8, c: u8, who: u16) -> u16
     ensures { result ≡ payer_seen eight w c who }
 {
@@ -106,7 +107,8 @@ fn payer_seen(w: u8, c: u8, who: u16) -> u16
 // One charge more: its payer's total gains the amount, or the unplaced one.
 fn charged(b: Books, c: Charge) -> Books
     requires { Within b 65534 }
-    ensures { result ≡ charged_one eight b c }
+    ensures value { result ≡ charged_one eight b c }
+    ensures within { Within result (count b + 1) }
 {
     let mut u = b;
     let w = c.worker;
