@@ -1,5 +1,5 @@
 /* Endrusp for C: the text program over a buffer that is lent.
- * Link libforeign.a, which `rt staticlib foreign` writes to target/staticlib/. */
+ * Link libforeign.a, which `rt lib`, run in crates/foreign, writes to crates/foreign/out/. */
 #ifndef ENDRUSP_H
 #define ENDRUSP_H
 

@@ -1,7 +1,7 @@
-//! Finds the archive that `rt staticlib foreign` makes and has it linked.
+//! Finds the archive that `rt lib` makes of the crate `foreign` and has it linked.
 //!
 //! The archive `libforeign.a` is looked for in the folder that the environment
-//! variable ENDRUSP_LIB names, or else in `../../target/staticlib`. A path that
+//! variable ENDRUSP_LIB names, or else in `../../crates/foreign/out`. A path that
 //! is not absolute starts at the folder of this crate. Without the feature
 //! `linked` nothing is looked for and nothing is linked.
 
@@ -16,7 +16,7 @@ fn main() {
     }
 
     let named = env::var_os("ENDRUSP_LIB").filter(|folder| !folder.is_empty());
-    let folder = named.map_or_else(|| PathBuf::from("../../target/staticlib"), PathBuf::from);
+    let folder = named.map_or_else(|| PathBuf::from("../../crates/foreign/out"), PathBuf::from);
     let crate_folder = env::var_os("CARGO_MANIFEST_DIR").unwrap_or_default();
     let folder = Path::new(&crate_folder).join(folder);
     let archive = folder.join("libforeign.a");
@@ -25,7 +25,7 @@ fn main() {
     if !archive.is_file() {
         for line in [
             format!("there is no archive {}", archive.display()),
-            "`rt staticlib foreign`, run in the product's folder, makes it".to_string(),
+            "`rt lib`, run in the product's folder crates/foreign, makes it".to_string(),
             "or set ENDRUSP_LIB to the folder that holds libforeign.a".to_string(),
             "or build the model alone, which links nothing: --no-default-features".to_string(),
         ] {

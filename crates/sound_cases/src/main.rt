@@ -5,6 +5,7 @@
 use cases_parts::{answer, ask, ex, idle, live, read, reference, release, supply, tainted};
 use changes::all_free;
 use lookups::{put_cell, put_entry, put_message};
+use std::io;
 use tables::{Holding, Kind, Message, State, Status};
 
 // ---- parts
@@ -121,26 +122,28 @@ fn with_cells_below(c: u8) -> State {
 
 // ---- the cases
 
-fn show(name: &[u8], s: State) {
-    io::write_all(1, name);
+fn show(rt: &impl Print, name: &[u8], s: State) -> io::Result<()> {
+    rt.write_all(name)?;
     let n = sound::first_broken(s);
     let line = [b' ', b'0' + n % 10, b'\n'];
-    io::write_all(1, &line);
+    rt.write_all(&line)
 }
 
-fn sound_states() {
-    show(b"closed", all_free(0));
-    show(b"one-worker", all_free(1));
-    show(b"busy", busy(4));
-    show(b"eight-workers", busy(8));
+fn sound_states(rt: &impl Print) -> io::Result<()> {
+    show(rt, b"closed", all_free(0))?;
+    show(rt, b"one-worker", all_free(1))?;
+    show(rt, b"busy", busy(4))?;
+    show(rt, b"eight-workers", busy(8))
 }
 
-fn sound_weights() {
+fn sound_weights(rt: &impl Print) -> io::Result<()> {
     show(
+        rt,
         b"supply-of-0",
         put_entry(with_message(4, supply(2, 1, 0)), 0, 1, live(1, 280)),
-    );
+    )?;
     show(
+        rt,
         b"weight-at-the-ceiling",
         put_entry(
             with_cell(3, 0, reading(2, 0, 1048576, false)),
@@ -148,233 +151,315 @@ fn sound_weights() {
             0,
             live(0, 1048576),
         ),
-    );
-    show(b"booked-equals-free", with_cells_below(31));
+    )?;
+    show(rt, b"booked-equals-free", with_cells_below(31))
 }
 
-fn sound_references() {
-    show(b"read-of-its-own-entry", with_message(1, read(3, 0, 2, 0)));
+fn sound_references(rt: &impl Print) -> io::Result<()> {
     show(
+        rt,
+        b"read-of-its-own-entry",
+        with_message(1, read(3, 0, 2, 0)),
+    )?;
+    show(
+        rt,
         b"read-over-one-reference",
         with_message(1, read(3, 0, 1, 0)),
-    );
+    )?;
     show(
+        rt,
         b"tainted-names-tainted",
         with_exported(Kind::Ref(4), tainted(9, 10)),
-    );
-    show(b"loop", with_loop());
+    )?;
+    show(rt, b"loop", with_loop())
 }
 
-fn workers_beyond_p() {
-    show(b"p-9", busy(9));
-    show(b"p-255", all_free(255));
+fn workers_beyond_p(rt: &impl Print) -> io::Result<()> {
+    show(rt, b"p-9", busy(9))?;
+    show(rt, b"p-255", all_free(255))?;
     show(
+        rt,
         b"closed-with-a-cell",
         put_cell(all_free(0), 0, 0, Kind::Var { caller: 0 }),
-    );
+    )?;
     show(
+        rt,
         b"cell-of-worker-p",
         with_cell(4, 0, Kind::Var { caller: 0 }),
-    );
+    )?;
     show(
+        rt,
         b"cell-of-worker-7",
         with_cell(7, 31, Kind::Val { n: 0, caller: 0 }),
-    );
-    show(b"entry-of-worker-p", with_entry(4, 0, live(0, 1)));
+    )?;
+    show(rt, b"entry-of-worker-p", with_entry(4, 0, live(0, 1)))
 }
 
-fn owners_beyond_p() {
-    show(b"ex-owner-p", with_cell(3, 9, idle(4, 0, 1)));
-    show(b"ex-owner-255", with_cell(3, 9, idle(255, 0, 1)));
-    show(b"reference-owner-p", with_message(8, reference(2, 4, 0, 1)));
-    show(b"release-owner-p", with_message(8, release(4, 0, 1)));
-    show(b"read-owner-p", with_message(0, read(1, 0, 4, 0)));
-    show(b"ask-owner-p", with_message(3, ask(1, 2, 4, 1)));
-}
-
-fn receivers_beyond_p() {
-    show(b"reference-to-p", with_message(8, reference(4, 0, 0, 1)));
-    show(b"read-reader-p", with_message(8, read(4, 0, 0, 0)));
-    show(b"answer-reader-p", with_message(8, answer(4, 0, 0)));
-    show(b"ask-asker-p", with_message(8, ask(4, 0, 0, 0)));
-    show(b"supply-asker-p", with_message(8, supply(4, 0, 0)));
-}
-
-fn cells_beyond_31() {
-    show(b"ref-cell-32", with_cell(1, 1, Kind::Ref(32)));
-    show(b"entry-cell-32", with_new_entry(live(32, 10)));
-    show(b"read-cell-32", with_message(8, read(1, 32, 0, 0)));
-    show(b"answer-cell-32", with_message(8, answer(3, 32, 5)));
-    show(b"ask-cell-32", with_message(8, ask(1, 32, 0, 1)));
-    show(b"supply-cell-32", with_message(8, supply(2, 32, 0)));
-}
-
-fn entries_beyond_15() {
-    show(b"ex-entry-16", with_cell(3, 9, idle(0, 16, 1)));
+fn owners_beyond_p(rt: &impl Print) -> io::Result<()> {
+    show(rt, b"ex-owner-p", with_cell(3, 9, idle(4, 0, 1)))?;
+    show(rt, b"ex-owner-255", with_cell(3, 9, idle(255, 0, 1)))?;
     show(
+        rt,
+        b"reference-owner-p",
+        with_message(8, reference(2, 4, 0, 1)),
+    )?;
+    show(rt, b"release-owner-p", with_message(8, release(4, 0, 1)))?;
+    show(rt, b"read-owner-p", with_message(0, read(1, 0, 4, 0)))?;
+    show(rt, b"ask-owner-p", with_message(3, ask(1, 2, 4, 1)))
+}
+
+fn receivers_beyond_p(rt: &impl Print) -> io::Result<()> {
+    show(
+        rt,
+        b"reference-to-p",
+        with_message(8, reference(4, 0, 0, 1)),
+    )?;
+    show(rt, b"read-reader-p", with_message(8, read(4, 0, 0, 0)))?;
+    show(rt, b"answer-reader-p", with_message(8, answer(4, 0, 0)))?;
+    show(rt, b"ask-asker-p", with_message(8, ask(4, 0, 0, 0)))?;
+    show(rt, b"supply-asker-p", with_message(8, supply(4, 0, 0)))
+}
+
+fn cells_beyond_31(rt: &impl Print) -> io::Result<()> {
+    show(rt, b"ref-cell-32", with_cell(1, 1, Kind::Ref(32)))?;
+    show(rt, b"entry-cell-32", with_new_entry(live(32, 10)))?;
+    show(rt, b"read-cell-32", with_message(8, read(1, 32, 0, 0)))?;
+    show(rt, b"answer-cell-32", with_message(8, answer(3, 32, 5)))?;
+    show(rt, b"ask-cell-32", with_message(8, ask(1, 32, 0, 1)))?;
+    show(rt, b"supply-cell-32", with_message(8, supply(2, 32, 0)))
+}
+
+fn entries_beyond_15(rt: &impl Print) -> io::Result<()> {
+    show(rt, b"ex-entry-16", with_cell(3, 9, idle(0, 16, 1)))?;
+    show(
+        rt,
         b"reference-entry-16",
         with_message(8, reference(2, 0, 16, 1)),
-    );
-    show(b"release-entry-16", with_message(8, release(0, 16, 1)));
-    show(b"read-entry-16", with_message(0, read(1, 0, 0, 16)));
-    show(b"ask-entry-16", with_message(3, ask(1, 2, 0, 16)));
+    )?;
+    show(rt, b"release-entry-16", with_message(8, release(0, 16, 1)))?;
+    show(rt, b"read-entry-16", with_message(0, read(1, 0, 0, 16)))?;
+    show(rt, b"ask-entry-16", with_message(3, ask(1, 2, 0, 16)))
 }
 
-fn weights_out_of_range() {
-    show(b"ex-over-the-ceiling", with_cell(3, 9, idle(0, 2, 1048577)));
+fn weights_out_of_range(rt: &impl Print) -> io::Result<()> {
     show(
+        rt,
+        b"ex-over-the-ceiling",
+        with_cell(3, 9, idle(0, 2, 1048577)),
+    )?;
+    show(
+        rt,
         b"entry-over-the-ceiling",
         with_entry(2, 0, live(0, 1048577)),
-    );
+    )?;
     show(
+        rt,
         b"reference-over-the-ceiling",
         with_message(8, reference(2, 0, 0, 1048577)),
-    );
+    )?;
     show(
+        rt,
         b"release-over-the-ceiling",
         with_message(8, release(0, 1, 1048577)),
-    );
+    )?;
     show(
+        rt,
         b"supply-over-the-ceiling",
         with_message(4, supply(2, 1, 1048577)),
-    );
-    show(b"entry-of-weight-0", with_entry(0, 9, live(9, 0)));
+    )?;
+    show(rt, b"entry-of-weight-0", with_entry(0, 9, live(9, 0)))
 }
 
-fn refs_name() {
-    show(b"ref-to-free", with_cell(3, 9, Kind::Ref(31)));
-    show(b"ref-to-var", with_cell(1, 9, Kind::Ref(3)));
-    show(b"ref-to-val", with_cell(2, 9, Kind::Ref(2)));
-    show(b"ref-to-ref", with_cell(1, 9, Kind::Ref(1)));
-    show(b"ref-to-itself", with_cell(1, 9, Kind::Ref(9)));
+fn refs_name(rt: &impl Print) -> io::Result<()> {
+    show(rt, b"ref-to-free", with_cell(3, 9, Kind::Ref(31)))?;
+    show(rt, b"ref-to-var", with_cell(1, 9, Kind::Ref(3)))?;
+    show(rt, b"ref-to-val", with_cell(2, 9, Kind::Ref(2)))?;
+    show(rt, b"ref-to-ref", with_cell(1, 9, Kind::Ref(1)))?;
+    show(rt, b"ref-to-itself", with_cell(1, 9, Kind::Ref(9)))
 }
 
-fn exes_name() {
-    show(b"ex-of-a-free-entry", with_cell(3, 9, idle(0, 9, 1)));
+fn exes_name(rt: &impl Print) -> io::Result<()> {
+    show(rt, b"ex-of-a-free-entry", with_cell(3, 9, idle(0, 9, 1)))?;
     show(
+        rt,
         b"ex-of-its-own-worker",
         put_entry(with_cell(0, 9, idle(0, 0, 10)), 0, 0, live(0, 210)),
-    );
-    show(b"ex-of-weight-0", with_cell(3, 9, idle(0, 2, 0)));
+    )?;
+    show(rt, b"ex-of-weight-0", with_cell(3, 9, idle(0, 2, 0)))?;
     show(
+        rt,
         b"two-ex-of-one-entry",
         put_entry(with_cell(1, 9, idle(0, 0, 10)), 0, 0, live(0, 210)),
-    );
+    )
 }
 
-fn entries_name() {
-    show(b"entry-of-a-free-cell", with_new_entry(live(9, 10)));
-    show(b"two-entries-of-one-cell", with_new_entry(live(0, 10)));
-    show(b"untainted-owner-not-below", with_entry(0, 2, live(2, 80)));
+fn entries_name(rt: &impl Print) -> io::Result<()> {
+    show(rt, b"entry-of-a-free-cell", with_new_entry(live(9, 10)))?;
+    show(rt, b"two-entries-of-one-cell", with_new_entry(live(0, 10)))?;
     show(
+        rt,
+        b"untainted-owner-not-below",
+        with_entry(0, 2, live(2, 80)),
+    )?;
+    show(
+        rt,
         b"untainted-names-tainted",
         with_exported(Kind::Var { caller: 0 }, live(4, 10)),
-    );
+    )?;
     show(
+        rt,
         b"untainted-ref-to-unsafe",
         with_exported(Kind::Ref(4), live(9, 10)),
-    );
+    )
 }
 
-fn reading_with_one() {
-    show(b"reading-with-none", with_message(0, Message::Empty));
-    show(b"reading-with-two-reads", with_message(8, read(1, 0, 0, 0)));
+fn reading_with_one(rt: &impl Print) -> io::Result<()> {
+    show(rt, b"reading-with-none", with_message(0, Message::Empty))?;
     show(
+        rt,
+        b"reading-with-two-reads",
+        with_message(8, read(1, 0, 0, 0)),
+    )?;
+    show(
+        rt,
         b"reading-with-read-and-answer",
         with_message(8, answer(1, 0, 5)),
-    );
+    )
 }
 
-fn reads_with_a_reader() {
-    show(b"read-for-an-idle-ex", with_message(8, read(2, 0, 1, 0)));
-    show(b"read-for-a-known-ex", with_message(8, read(1, 2, 0, 1)));
-    show(b"read-for-a-var", with_message(8, read(1, 3, 0, 0)));
-    show(b"read-for-a-free-cell", with_message(8, read(1, 31, 0, 0)));
-    show(b"answer-for-an-idle-ex", with_message(8, answer(2, 0, 5)));
-}
-
-fn asks_and_supplies() {
-    show(b"asking-with-none", with_message(3, Message::Empty));
-    show(b"asking-with-two-asks", with_message(8, ask(1, 2, 0, 1)));
+fn reads_with_a_reader(rt: &impl Print) -> io::Result<()> {
     show(
+        rt,
+        b"read-for-an-idle-ex",
+        with_message(8, read(2, 0, 1, 0)),
+    )?;
+    show(
+        rt,
+        b"read-for-a-known-ex",
+        with_message(8, read(1, 2, 0, 1)),
+    )?;
+    show(rt, b"read-for-a-var", with_message(8, read(1, 3, 0, 0)))?;
+    show(
+        rt,
+        b"read-for-a-free-cell",
+        with_message(8, read(1, 31, 0, 0)),
+    )?;
+    show(
+        rt,
+        b"answer-for-an-idle-ex",
+        with_message(8, answer(2, 0, 5)),
+    )
+}
+
+fn asks_and_supplies(rt: &impl Print) -> io::Result<()> {
+    show(rt, b"asking-with-none", with_message(3, Message::Empty))?;
+    show(
+        rt,
+        b"asking-with-two-asks",
+        with_message(8, ask(1, 2, 0, 1)),
+    )?;
+    show(
+        rt,
         b"asking-with-ask-and-supply",
         with_message(8, supply(1, 2, 0)),
-    );
-    show(b"ask-for-one-not-asking", with_message(8, ask(2, 0, 1, 0)));
+    )?;
     show(
+        rt,
+        b"ask-for-one-not-asking",
+        with_message(8, ask(2, 0, 1, 0)),
+    )?;
+    show(
+        rt,
         b"supply-for-one-not-asking",
         with_message(8, supply(2, 0, 0)),
-    );
+    )
 }
 
-fn messages_name() {
+fn messages_name(rt: &impl Print) -> io::Result<()> {
     show(
+        rt,
         b"reference-of-a-free-entry",
         with_message(8, reference(2, 0, 9, 5)),
-    );
+    )?;
     show(
+        rt,
         b"release-of-a-free-entry",
         with_message(8, release(0, 9, 5)),
-    );
-    show(b"read-of-a-free-entry", with_message(0, read(1, 0, 0, 9)));
-    show(b"ask-of-a-free-entry", with_message(3, ask(1, 2, 0, 9)));
+    )?;
     show(
+        rt,
+        b"read-of-a-free-entry",
+        with_message(0, read(1, 0, 0, 9)),
+    )?;
+    show(rt, b"ask-of-a-free-entry", with_message(3, ask(1, 2, 0, 9)))?;
+    show(
+        rt,
         b"reference-of-weight-0",
         with_message(8, reference(2, 0, 0, 0)),
-    );
-    show(b"release-of-weight-0", with_message(8, release(0, 1, 0)));
+    )?;
+    show(
+        rt,
+        b"release-of-weight-0",
+        with_message(8, release(0, 1, 0)),
+    )
 }
 
-fn reads_reach() {
-    show(b"ask-of-another-entry", with_message(3, ask(1, 2, 0, 0)));
-    show(b"read-not-reached", with_message(0, read(1, 0, 0, 1)));
-    show(b"read-the-wrong-way", with_message(0, read(1, 0, 1, 0)));
+fn reads_reach(rt: &impl Print) -> io::Result<()> {
+    show(
+        rt,
+        b"ask-of-another-entry",
+        with_message(3, ask(1, 2, 0, 0)),
+    )?;
+    show(rt, b"read-not-reached", with_message(0, read(1, 0, 0, 1)))?;
+    show(rt, b"read-the-wrong-way", with_message(0, read(1, 0, 1, 0)))?;
     let circling = put_cell(with_loop(), 1, 5, reading(0, 3, 20, false));
     show(
+        rt,
         b"read-out-of-a-loop",
         put_message(circling, 8, read(1, 5, 0, 0)),
-    );
+    )
 }
 
-fn weights_summed() {
-    show(b"entry-one-more", with_entry(0, 0, live(0, 201)));
-    show(b"entry-one-less", with_entry(0, 0, live(0, 199)));
-    show(b"ex-not-counted", with_entry(0, 0, live(0, 140)));
-    show(b"reference-not-counted", with_entry(0, 0, live(0, 160)));
+fn weights_summed(rt: &impl Print) -> io::Result<()> {
+    show(rt, b"entry-one-more", with_entry(0, 0, live(0, 201)))?;
+    show(rt, b"entry-one-less", with_entry(0, 0, live(0, 199)))?;
+    show(rt, b"ex-not-counted", with_entry(0, 0, live(0, 140)))?;
+    show(rt, b"reference-not-counted", with_entry(0, 0, live(0, 160)))
 }
 
-fn weights_in_transit() {
-    show(b"release-not-counted", with_entry(0, 1, live(1, 275)));
-    show(b"supply-not-counted", with_entry(0, 1, live(1, 280)));
+fn weights_in_transit(rt: &impl Print) -> io::Result<()> {
+    show(rt, b"release-not-counted", with_entry(0, 1, live(1, 275)))?;
+    show(rt, b"supply-not-counted", with_entry(0, 1, live(1, 280)))?;
     show(
+        rt,
         b"supply-counted-elsewhere",
         put_entry(with_entry(0, 1, live(1, 280)), 0, 0, live(0, 225)),
-    );
+    )
 }
 
-fn room() {
-    show(b"booked-more-than-free", with_cells_below(32));
+fn room(rt: &impl Print) -> io::Result<()> {
+    show(rt, b"booked-more-than-free", with_cells_below(32))
 }
 
-fn main() {
-    sound_states();
-    sound_weights();
-    sound_references();
-    workers_beyond_p();
-    owners_beyond_p();
-    receivers_beyond_p();
-    cells_beyond_31();
-    entries_beyond_15();
-    weights_out_of_range();
-    refs_name();
-    exes_name();
-    entries_name();
-    reading_with_one();
-    reads_with_a_reader();
-    asks_and_supplies();
-    messages_name();
-    reads_reach();
-    weights_summed();
-    weights_in_transit();
-    room();
+fn main(rt: HostRuntime) -> io::Result<()> {
+    sound_states(&rt)?;
+    sound_weights(&rt)?;
+    sound_references(&rt)?;
+    workers_beyond_p(&rt)?;
+    owners_beyond_p(&rt)?;
+    receivers_beyond_p(&rt)?;
+    cells_beyond_31(&rt)?;
+    entries_beyond_15(&rt)?;
+    weights_out_of_range(&rt)?;
+    refs_name(&rt)?;
+    exes_name(&rt)?;
+    entries_name(&rt)?;
+    reading_with_one(&rt)?;
+    reads_with_a_reader(&rt)?;
+    asks_and_supplies(&rt)?;
+    messages_name(&rt)?;
+    reads_reach(&rt)?;
+    weights_summed(&rt)?;
+    weights_in_transit(&rt)?;
+    room(&rt)
 }
