@@ -1,3 +1,2 @@
 // No code: the laws of loops, in specs/.
 #![tactic(auto)]
-

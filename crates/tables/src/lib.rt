@@ -1,7 +1,6 @@
 // The sizes and weights of document 01, the highest caller of W-201, and the types of their forms: the state, a call, its answer.
 #![tactic(auto)]
 
-
 // How many workers at most, cells and entries a worker, and message slots.
 pub const WORKERS: u8 = 8;
 
