@@ -55,7 +55,7 @@ fn write_signed(rt: &impl Print, before: &[u8], n: i64) -> io::Result<()> {
 
 // ---- reports
 
-// Of the first n charges. It lends them, and is proved by hand; its callers are not.
+// Of the first n charges, which it lends.
 fn report_of(s: State, charges: [Charge; 65536], n: usize) -> CostReport
     requires { n ≤ 65536 }
     ensures { result ≡ report eight (tables s) (take n charges) }
