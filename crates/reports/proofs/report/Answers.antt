@@ -6,7 +6,7 @@ use Rattle.reports.specs.Report.{taken, reported}
 use Rattle.reports.specs.Charging.{finished_of}
 use Rattle.reports.proofs.Laws.{within_opened, charged_next, charged_end, taken-length, taken_at, taken_few, report_is}
 use Rattle.reports.proofs.report.Goals as goal
-use Rattle.reports.proofs.report.Goals.{After-taken-n, In-loop-i}
+use Rattle.reports.proofs.report.Goals.{After-taken-n}
 
 -- as many turns as charges that are taken
 turns : (c : After-taken-n) → c.taken-n.result ≡ length (taken (reported eight (tables c.args.s) (length c.args.charges.now)) c.args.charges.now)
