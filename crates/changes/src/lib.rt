@@ -207,7 +207,6 @@ fn bound_to_ex(y: u8, k: Kind, st: Status) -> Kind
 }
 
 // And where it is bound to the end y, which holds ex; a REF where that is no EX: that is refused, and the answer is not used.
-#[tactic(auto, using(parts::proofs::Others::not_ex_lem))]
 pub fn bound_to(y: u8, k: Kind, ex: Kind) -> Kind
     ensures { result ≡ bound_to y k ex }
 {
@@ -283,7 +282,6 @@ pub fn by_location(w: u8, x: u8, to: u8, taint: bool, u: Used, slot: u8) -> Effe
 }
 
 // What an EX keeps and what it sends: half its weight, rounded down, is sent.
-#[tactic(auto, using(parts::proofs::Others::not_ex_lem))]
 fn keeps(k: Kind) -> Kind
     ensures { result ≡ keeps eight k }
 {
@@ -305,7 +303,6 @@ fn keeps(k: Kind) -> Kind
     }
 }
 
-#[tactic(auto, using(parts::proofs::Others::not_ex_lem))]
 fn sends(to: u8, k: Kind) -> Message
     ensures { result ≡ sends eight to k }
 {
@@ -345,7 +342,6 @@ pub fn export_end(w: u8, x: u8, to: u8, k: Kind, u: Used, slot: u8) -> Effect
 }
 
 // A transferred EX sends its whole weight as a Reference.
-#[tactic(auto, using(parts::proofs::Others::not_ex_lem))]
 fn sends_whole(to: u8, k: Kind) -> Message
     ensures { result ≡ sends_whole to k }
 {
@@ -376,7 +372,6 @@ pub fn transferred(w: u8, c: u8, to: u8, ex: Kind, slot: u8) -> Effect
 // ---- drop
 
 // A dropped EX sends its whole weight as a Release.
-#[tactic(auto, using(parts::proofs::Others::not_ex_lem))]
 fn releases(k: Kind) -> Message
     ensures { result ≡ releases k }
 {
@@ -486,7 +481,6 @@ fn ask_ex(w: u8, x: u8, slot: u8, o: u8, e: u8, n: u32, st: Status, a: bool) -> 
 }
 
 // An ask that comes to the end x, which holds k.
-#[tactic(auto, using(parts::proofs::Others::not_ex_lem))]
 pub fn ask_at(w: u8, x: u8, k: Kind, slot: u8) -> Effect
     ensures { result ≡ ask_at w x k slot }
 {

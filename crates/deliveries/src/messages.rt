@@ -44,7 +44,7 @@ fn taken_off(w: u32, x: Holding) -> Holding
 }
 
 // The weight joins the EX, or the cell becomes such an EX, idle.
-#[tactic(auto, using(changes::specs::BelowCeiling::added_is, parts::proofs::Others::not_ex_lem))]
+#[tactic(auto, using(changes::specs::BelowCeiling::added_is))]
 fn joined(o: u8, e: u8, w: u32, k: Kind) -> Kind
     ensures { w ≤ 1048576 → ex_weight k ≤ 1048576 → result ≡ joined o e w k }
 {
@@ -74,7 +74,6 @@ fn joined(o: u8, e: u8, w: u32, k: Kind) -> Kind
 }
 
 // The EX is known with v.
-#[tactic(auto, using(parts::proofs::Others::not_ex_lem))]
 fn known(v: u32, k: Kind) -> Kind
     ensures { result ≡ known v k }
 {
@@ -97,7 +96,7 @@ fn known(v: u32, k: Kind) -> Kind
 }
 
 // Weight added, no longer asking.
-#[tactic(auto, using(changes::specs::BelowCeiling::added_is, parts::proofs::Others::not_ex_lem))]
+#[tactic(auto, using(changes::specs::BelowCeiling::added_is))]
 fn supplied(w: u32, k: Kind) -> Kind
     ensures { w ≤ 1048576 → ex_weight k ≤ 1048576 → result ≡ supplied w k }
 {

@@ -47,7 +47,6 @@ pub fn entry_at(entries: EntryTable, w: u8, e: u8) -> Holding
 }
 
 // What the slot k holds.
-#[tactic(auto, using(crate::specs::Past::message_past))]
 pub fn message_at(slots: SlotTable, k: u8) -> Message
     ensures { (t : Tables) → t.slots ≡ slots → result ≡ message t k }
 {
@@ -93,7 +92,7 @@ pub fn put_entry(s: State, w: u8, e: u8, x: Holding) -> State
 }
 
 // The state with m in the slot k.
-#[tactic(auto, using(crate::specs::Past::put_message_past), unfolding(tables::specs::Look::put_message))]
+#[tactic(auto, unfolding(tables::specs::Look::put_message))]
 pub fn put_message(s: State, k: u8, m: Message) -> State
     ensures { result ≡ state (put_message (tables s) k m) }
 {

@@ -75,7 +75,6 @@ pub fn point_2(s: State) -> bool
 // ---- point 3
 
 // An EX of worker w that holds k is safe, where the entry that it names holds `entry`.
-#[tactic(auto, using(parts::proofs::Others::not_ex_lem))]
 fn is_safe(w: u8, k: Kind, entry: Holding) -> bool
     ensures { result ≡ safe_seen w entry k }
 {

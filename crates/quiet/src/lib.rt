@@ -59,7 +59,7 @@ pub fn set(s: State, w: u8, c: u8, n: u32) -> Reply
 }
 
 // The VAR c becomes a REF to the end of x, an EX, and loses its caller; where the EX is known, a VAL with the known value that keeps it.
-#[tactic(auto, using(crate::specs::Verdicts::decides), unfolding(crate::specs::Verdicts::along, rules::specs::Calls::bind))]
+#[tactic(auto, using(crate::specs::Verdicts::decides), unfolding(rules::specs::Calls::bind))]
 pub fn bind(s: State, w: u8, c: u8, x: u8) -> Reply
     ensures { result ≡ reply (made eight (tables s) (bind eight (tables s) w c x)) }
 {
@@ -76,7 +76,7 @@ pub fn bind(s: State, w: u8, c: u8, x: u8) -> Reply
 }
 
 // B: no more deliveries than this can succeed.
-#[tactic(auto, using(crate::specs::Verdicts::decides), unfolding(crate::specs::Verdicts::along, rules::specs::Calls::bound))]
+#[tactic(auto, using(crate::specs::Verdicts::decides), unfolding(rules::specs::Calls::bound))]
 pub fn bound(s: State) -> Reply
     ensures { result ≡ reply (made eight (tables s) (bound eight (tables s))) }
 {

@@ -38,7 +38,7 @@ fn is_sought(q: SoughtCell, k: Kind) -> bool
 }
 
 // The lowest such cell of worker w, 32 where there is none.
-#[tactic(auto, using(crate::specs::Laws::cells_found, crate::specs::Laws::cells_past, loops::specs::Searching::loops, loops::specs::Searching::seek_start))]
+#[tactic(auto, using(loops::specs::Searching::loops))]
 fn lowest_cell(cells: CellTable, w: u8, q: SoughtCell) -> u8
     ensures { (t : Tables) → t.cells ≡ cells → result ≡ lowest 32 (λ c. is_sought q (cell eight t w c)) }
 {
@@ -67,7 +67,6 @@ pub fn lowest_free_cell(cells: CellTable, w: u8) -> u8
 }
 
 // A REF of worker w names its cell c.
-#[tactic(auto, unfolding(tables::specs::Look::referred))]
 fn is_referred(cells: CellTable, w: u8, c: u8) -> bool
     ensures { (t : Tables) → t.cells ≡ cells → result ≡ referred eight t w c }
 {
@@ -102,7 +101,7 @@ fn is_sought_entry(q: SoughtEntry, x: Holding) -> bool
 }
 
 // The lowest such entry of worker w, 16 where there is none.
-#[tactic(auto, using(crate::specs::Laws::entries_found, crate::specs::Laws::entries_past, loops::specs::Searching::loops, loops::specs::Searching::seek_start))]
+#[tactic(auto, using(loops::specs::Searching::loops))]
 fn lowest_entry(entries: EntryTable, w: u8, q: SoughtEntry) -> u8
     ensures { (t : Tables) → t.entries ≡ entries → result ≡ lowest 16 (λ e. is_sought_entry q (entry eight t w e)) }
 {
@@ -174,7 +173,7 @@ pub fn lowest_empty_slot(slots: SlotTable) -> u8
 // ---- counts
 
 // How many cells of worker w are free.
-#[tactic(auto, using(crate::specs::Laws::bit_small, crate::specs::Laws::cells_count, crate::specs::Laws::cells_count_past, loops::specs::Searching::count_end, loops::specs::Searching::loops), unfolding(tables::specs::Look::free_cells))]
+#[tactic(auto, using(loops::specs::Searching::loops))]
 pub fn free_cells(cells: CellTable, w: u8) -> u8
     ensures { (t : Tables) → t.cells ≡ cells → result ≡ free_cells eight t w }
 {
@@ -191,7 +190,7 @@ pub fn free_cells(cells: CellTable, w: u8) -> u8
 }
 
 // How many Reference messages go to worker w.
-#[tactic(auto, using(crate::specs::Laws::bit_small, crate::specs::Laws::count_total, loops::specs::Searching::count_end, loops::specs::Searching::loops), unfolding(tables::specs::Look::booked))]
+#[tactic(auto, using(loops::specs::Searching::loops))]
 pub fn booked(slots: SlotTable, w: u8) -> u8
     ensures { (t : Tables) → t.slots ≡ slots → result ≡ booked t w }
 {
@@ -205,7 +204,7 @@ pub fn booked(slots: SlotTable, w: u8) -> u8
 }
 
 // How many entries are live.
-#[tactic(auto, using(crate::specs::Laws::bit_small, crate::specs::Laws::count_total, loops::specs::Searching::count_end, loops::specs::Searching::loops), unfolding(tables::specs::Look::live_entries))]
+#[tactic(auto, using(loops::specs::Searching::loops))]
 pub fn live_entries(entries: EntryTable) -> u8
     ensures { (t : Tables) → t.entries ≡ entries → result ≡ live_entries t }
 {

@@ -51,7 +51,7 @@ fn by_reference_refusals(v: Verdict, ex: Kind, room: Room) -> Verdict
 }
 
 // 10 to 13: a cell is exported by location, with the entry u. One above 1,048,576 - 1,024 would pass the ceiling.
-#[tactic(auto, using(numbers::specs::Tests::bool_eq), unfolding(quiet::specs::Verdicts::along))]
+#[tactic(auto, unfolding(quiet::specs::Verdicts::along))]
 pub fn by_location_refusals(v: Verdict, u: Used, room: Room) -> Verdict
     ensures { result ≡ along v (by_location_lines eight u room) }
 {
@@ -78,7 +78,6 @@ pub fn end_refusals(v: Verdict, k: Kind, u: Used, room: Room) -> Verdict
 // ---- the tests behind them
 
 // A read that comes to this end sends a Read.
-#[tactic(auto, using(parts::proofs::Others::not_ex_lem))]
 pub fn read_sends(k: Kind) -> bool
     ensures { result ≡ read_sends k }
 {

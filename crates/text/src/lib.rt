@@ -62,7 +62,7 @@ fn run_lines(input: &[u8], out: &mut [u8]) -> usize
 }
 
 // The same, where the input is not too long; of one that is, the one line that says so.
-#[tactic(auto, using(frames::proofs::Written::line_length), unfolding(crate::specs::Text::run_text))]
+#[tactic(auto, unfolding(crate::specs::Text::run_text))]
 fn run_text(input: &[u8], out: &mut [u8]) -> usize
     requires { 11 * length input.now + 11 ≤ length out.old }
     ensures value { result ≡ length (run_text input.now) }

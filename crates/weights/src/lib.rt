@@ -19,7 +19,6 @@ fn weight_if(counts: bool, n: u32) -> u32
 }
 
 // What a cell that holds k holds on the entry e of worker o.
-#[tactic(auto, using(parts::proofs::Others::not_ex_lem))]
 fn cell_holds(o: u8, e: u8, k: Kind) -> u32
     ensures { (s : Tables) → result ≡ cell_holds eight s o e k }
 {

@@ -1,4 +1,4 @@
--- The loop of `names::point_3`: how far it has come.
+-- The loops of `names::point_3`: how far each has come.
 use Prim.Native.Nat.{◌+◌, ◌*◌, ◌/◌, ◌%◌}
 use Rattle.loops.specs.Searching.{Counting}
 use Rattle.tables.specs.Machine.{eight, tables}

@@ -1,4 +1,4 @@
--- The loop of `weights::point_5`: how far it has come.
+-- The loops of `weights::point_5`: how far each has come.
 use Prim.Native.Nat.{◌/◌, ◌%◌}
 use Rattle.tables.specs.Machine.{eight, tables}
 use Rattle.tables.specs.Look.{kind_at, holding_at, message_at}

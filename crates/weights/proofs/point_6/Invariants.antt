@@ -1,4 +1,4 @@
--- The loop of `weights::point_6`: how far it has come.
+-- The loops of `weights::point_6`: how far each has come.
 use Rattle.loops.specs.Searching.{Counting}
 use Rattle.tables.specs.Machine.{eight, tables}
 use Rattle.tables.specs.Parts.{is_free, goes_to}
