@@ -1,0 +1,3 @@
+-- What stands in a table of rows, and the table with one place changed.
+pub mod Rows
+pub mod Laws
