@@ -7,9 +7,7 @@ ghost use Rattle.tables.specs.Machine.{Tables, eight, tables, state};
 ghost use Rattle.tables.specs.Look.{cell, entry, message, put_cell, put_entry, put_message, safe};
 ghost use Rattle.lookups.specs.Seen.{seen};
 
-use tables::{
-    Cell, CellTable, Entry, EntryTable, Holding, Kind, Message, SLOTS, Slot, SlotTable, State,
-};
+use tables::{Cell, CellTable, Entry, EntryTable, Holding, Kind, Message, Slot, SlotTable, State};
 
 // ---- what stands in the tables
 
@@ -31,7 +29,7 @@ pub fn entry_at(entries: &EntryTable, w: u8, e: u8) -> Holding
 pub fn message_at(slots: &SlotTable, k: u8) -> Message
     ensures { (t : Tables) → t.slots ≡ slots.now → result ≡ message t k }
 {
-    slots.get(k as usize).map_or(Message::Empty, |x| x.message)
+    rows::at(slots, 0, k).message
 }
 
 // ---- the state with one part changed
@@ -55,13 +53,10 @@ pub fn put_entry(mut s: State, w: u8, e: u8, x: Holding) -> State
 }
 
 // The state with m in the slot k.
-#[tactic(auto, using(crate::specs::Past::put_message_past), unfolding(tables::specs::Look::put_message))]
 pub fn put_message(mut s: State, k: u8, m: Message) -> State
     ensures { result ≡ state (put_message (tables s) k m) }
 {
-    if k < SLOTS {
-        s.slots[k as usize] = Slot { message: m };
-    }
+    rows::put(&mut s.slots, 0, k, Slot { message: m });
     s
 }
 

@@ -1,20 +1,22 @@
--- A table of rows that is as long as its rows are together: what is read in it and stored, as document 01's tables say it, of cells and of entries.
+-- A table of rows that is as long as its rows are together: what is read in it and stored, as document 01's tables say it, of cells, entries and slots.
 -- Assumes nothing.
 use Rattle.std.specs.Prelude.{ℕ, ◌+◌, ◌*◌, ◌≤◌, ◌≡◌, refl, Bool, true, false, ◌&&◌, cond, List, length, get_or, set, ltb}
-use Rattle.std.proofs.Common.{arith, sym, ap, ◌∙◌, ⊎_elim}
+use Rattle.std.proofs.Common.{arith, sym, ap}
 use Rattle.std.proofs.Math.ListN.{get_or-eq_default}
-use Rattle.std.proofs.Math.Nat.{mul-le-mul_right}
+use Rattle.std.proofs.Math.Nat.{mul-le-mul_right, zero-mul, zero-add}
 use Rattle.std.proofs.Math.Seq.{set_out}
 use borrow.Author.Tests.{ltb-false}
-use Rattle.numbers.specs.Tests.{or_else}
 use Rattle.tables.specs.declared.Cell.{Cell}
 use Rattle.tables.specs.declared.Kind.{Kind}
 use Rattle.tables.specs.declared.Kind.TheVariants.{Free}
 use Rattle.tables.specs.declared.Entry.{Entry}
 use Rattle.tables.specs.declared.Holding.{Holding}
 use Rattle.tables.specs.declared.Holding.TheVariants.{Unused}
-use Rattle.tables.specs.Machine.{Machine, Tables, with_cells, with_entries}
-use Rattle.tables.specs.Look.{cell, entry, put_cell, put_entry}
+use Rattle.tables.specs.declared.Slot.{Slot}
+use Rattle.tables.specs.declared.Message.{Message}
+use Rattle.tables.specs.declared.Message.TheVariants.{Empty}
+use Rattle.tables.specs.Machine.{Machine, Tables, with_cells, with_entries, with_slots}
+use Rattle.tables.specs.Look.{cell, entry, message, put_cell, put_entry, put_message}
 use Rattle.rows.specs.Rows.{row_at, row_put}
 
 -- past the last row there is no place
@@ -78,3 +80,23 @@ module _ (𝓜 : Machine) where
           ≡ cond b (with_entries s (set s.entries (w * 𝓜.entries + e) (record { holding = x }))) s
       go true = refl
       go false = refl
+
+  -- the slots are one row
+  pub slot_read : (s : Tables) (k : ℕ) {l : List Slot} {x : Slot} → s.slots ≡ l → length l ≡ 𝓜.slots
+      → x ≡ row_at 𝓜.slots (record { message = Empty }) l 0 k → x.message ≡ message s k
+  slot_read s k {l} e long r =
+      let whole : length l ≡ 1 * 𝓜.slots = omega arith in
+      rw (r, e, row_is l 1 𝓜.slots 0 k whole (λ (y : Slot). y.message) (record { message = Empty }), zero-mul, zero-add) (go (ltb k 𝓜.slots) refl)
+    where
+      go : (b : Bool) → ltb k 𝓜.slots ≡ b → cond b (get_or l k (record { message = Empty })).message Empty ≡ (get_or l k (record { message = Empty })).message
+      go true h = refl
+      go false h = ap (λ (y : Slot). y.message) (sym (get_or-eq_default l (record { message = Empty }) {n = k} (rw long (ltb-false k 𝓜.slots h))))
+
+  pub slot_stored : (s : Tables) (k : ℕ) (m : Message) {l : List Slot} → length s.slots ≡ 𝓜.slots
+      → l ≡ row_put 𝓜.slots s.slots 0 k (record { message = m }) → with_slots s l ≡ put_message s k m
+  unfolding put_message
+  slot_stored s k m long r = rw (r, zero-mul, zero-add) (ap (with_slots s) (go (ltb k 𝓜.slots) refl))
+    where
+      go : (b : Bool) → ltb k 𝓜.slots ≡ b → cond b (set s.slots k (record { message = m })) s.slots ≡ set s.slots k (record { message = m })
+      go true h = refl
+      go false h = sym (set_out s.slots k (record { message = m }) (rw long (ltb-false k 𝓜.slots h)))

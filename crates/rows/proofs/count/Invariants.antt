@@ -4,9 +4,9 @@ use Rattle.loops.specs.Searching.{Counting}
 use Rattle.rows.specs.Rows.{row_at}
 use Rattle.rows.proofs.count.Given as goal
 
-abbrev pub invariant-loop-i : goal.invariant-loop-i
-invariant-loop-i g l =
+abbrev pub invariant-loop-k : goal.invariant-loop-k
+invariant-loop-k g l =
     goal.F-IsAlwaysCallable g l.counted
-    × (l.n ≤ l.i)
+    × (l.n ≤ l.k)
     × ((q : _ → Bool) → ((x : _) (b : Bool) → goal.F-post g l.counted x b → b ≡ q x)
-        → Counting (λ j. q (row_at g.T.Part.WIDTH g.T.Part.free l.table l.w j)) g.T.Part.WIDTH l.i l.n)
+    → Counting (λ j. q (row_at g.T.Part.WIDTH g.T.Part.free l.table l.w j)) g.T.Part.WIDTH l.k l.n)

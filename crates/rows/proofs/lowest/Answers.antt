@@ -1,5 +1,5 @@
 -- `rows::lowest` meets its contract: a search by a closure that computes q. Assumes nothing.
-use Rattle.std.proofs.Common.{◌≡◌, ◌<◌, ◌≤◌, rules}
+use Rattle.std.proofs.Common.{◌<◌, ◌≤◌, rules}
 use Rattle.loops.specs.Searching.{seek_start, seek_hit, seek_pass, seek_end}
 use Rattle.rows.proofs.lowest.Goals as goal
 

@@ -9,4 +9,4 @@ abbrev pub invariant-loop-i : goal.invariant-loop-i
 invariant-loop-i g l =
     goal.F-IsAlwaysCallable g l.sought
     × ((q : _ → Bool) → ((x : _) (b : Bool) → goal.F-post g l.sought x b → b ≡ q x)
-        → Seeking (λ j. q (row_at g.T.Part.WIDTH g.T.Part.free l.table l.w j)) g.T.Part.WIDTH l.i (lowest g.T.Part.WIDTH (λ j. q (row_at g.T.Part.WIDTH g.T.Part.free l.table l.w j))))
+    → Seeking (λ j. q (row_at g.T.Part.WIDTH g.T.Part.free l.table l.w j)) g.T.Part.WIDTH l.i (lowest g.T.Part.WIDTH (λ j. q (row_at g.T.Part.WIDTH g.T.Part.free l.table l.w j))))
