@@ -90,10 +90,8 @@ pub fn free_cells(cells: &CellTable, w: u8) -> u8
 pub fn booked(slots: &SlotTable, w: u8) -> u8
     ensures { (t : Tables) → t.slots ≡ slots.now → result ≡ booked t w }
 {
-    slots
-        .iter()
-        .filter(|x| parts::goes_to(w, x.message))
-        .count() as u8
+    let going = slots.iter().filter(|x| parts::goes_to(w, x.message));
+    going.count() as u8
 }
 
 // How many entries are live.
