@@ -3,41 +3,25 @@
 
 ghost use Rattle.std.specs.Prelude.{◌≡◌};
 ghost use Rattle.numbers.specs.Below.{walk_meets};
-ghost use Rattle.tables.specs.declared.Place.TheVariants.{At};
 ghost use Rattle.tables.specs.Machine.{eight, tables};
 ghost use Rattle.tables.specs.Parts.{is_at};
-ghost use Rattle.chains.specs.Hops.{Followed, next_seen, step_by};
+ghost use Rattle.chains.specs.Hops.{Followed, step_by};
 
-use tables::{ALL_ENTRIES, ENTRIES, ENTRY_ROW, Place, State, WORKERS};
+use tables::{ALL_ENTRIES, ENTRIES, ENTRY_ROW, EntryName, State, WORKERS};
 
-// Where one step leads.
-#[derive(Clone, Copy)]
-pub struct Hop {
-    pub next: Place,
-}
-
-// The hops of all entries, entry e of worker w at w * ENTRY_ROW + e.
-#[derive(Clone, Copy)]
-pub struct Hops {
-    pub hops: [Hop; ALL_ENTRIES],
-}
+// Where the step from each entry leads, entry e of worker w at w * ENTRY_ROW + e.
+pub type Hops = [Option<EntryName>; ALL_ENTRIES];
 
 // The step from each entry, to what the end of its cell names. A free entry leads nowhere.
 pub fn hops_of(s: State) -> Hops
-    ensures { Followed eight (tables s) result.hops 128 }
+    ensures { Followed eight (tables s) result 128 }
 {
-    let mut t = Hops {
-        hops: [Hop {
-            next: Place::Nowhere,
-        }; ALL_ENTRIES],
-    };
+    let mut hops = [None; ALL_ENTRIES];
     for i in 0..ALL_ENTRIES {
         let x = s.entries[i];
         let holding = x.holding;
         if parts::is_unused(holding) {
-            t.hops[i] = Hop {
-                next: Place::Nowhere,
-            };
+            hops[i] = None;
             continue;
         }
         let w = (i / ENTRY_ROW) as u8;
@@ -51,48 +35,33 @@ pub fn hops_of(s: State) -> Hops
         let z = s.cells[g];
         let far = z.kind;
         let next = parts::named_by(places::cell_seen(w, d, far));
-        t.hops[i] = Hop { next: next };
+        hops[i] = next;
     }
-    t
+    hops
 }
 
-#[tactic(auto, unfolding(crate::specs::Hops::next_seen))]
-fn next_at(o: u8, e: u8, next: Place) -> Place
-    ensures { result ≡ next_seen eight (At o e) next }
+// Where one step leads from a place.
+#[tactic(auto, unfolding(crate::specs::Hops::next_seen, places::specs::Places::place_index))]
+fn step(hops: &Hops, at: Option<EntryName>) -> Option<EntryName>
+    ensures { result ≡ step_by eight hops.now at }
 {
-    if WORKERS <= o {
-        return Place::Nowhere;
+    let EntryName { owner, entry } = at?;
+    if WORKERS <= owner || ENTRIES <= entry {
+        return None;
     }
-    if ENTRIES <= e {
-        return Place::Nowhere;
-    }
-    next
+    hops[owner as usize * ENTRY_ROW + entry as usize]
 }
 
-// The place after p, where `next` is read in the table of hops.
-#[tactic(auto, unfolding(crate::specs::Hops::next_seen))]
-fn next_seen(p: Place, next: Place) -> Place
-    ensures { result ≡ next_seen eight p next }
-{
-    match p {
-        Place::Nowhere => Place::Nowhere,
-        Place::At { owner, entry } => next_at(owner, entry, next),
-    }
-}
-
-// The entry e of worker o is at the place from, or reached from there.
-pub fn reached(t: Hops, from: Place, o: u8, e: u8) -> bool
-    ensures { result ≡ walk_meets (is_at o e) (step_by eight t.hops) 128 from }
+// The entry `to` is at the place `from`, or reached from there.
+pub fn reached(hops: &Hops, from: Option<EntryName>, to: EntryName) -> bool
+    ensures { result ≡ walk_meets (is_at to.owner to.entry) (step_by eight hops.now) 128 from }
 {
     let mut at = from;
     for i in 0..ALL_ENTRIES {
-        if parts::is_at(o, e, at) {
+        if at == Some(to) {
             return true;
         }
-        let j = places::place_index(at);
-        let x = t.hops[j];
-        let next = x.next;
-        at = next_seen(at, next);
+        at = step(hops, at);
     }
     false
 }

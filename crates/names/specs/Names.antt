@@ -10,9 +10,8 @@ use Rattle.tables.specs.declared.Kind.{Kind}
 use Rattle.tables.specs.declared.Kind.TheVariants.{Free, Var, Val, Ref, Ex}
 use Rattle.tables.specs.declared.Holding.{Holding}
 use Rattle.tables.specs.declared.Holding.TheVariants.{Unused, Live}
-use Rattle.tables.specs.declared.Place.{Place}
 use Rattle.tables.specs.Machine.{Machine, Tables}
-use Rattle.tables.specs.Parts.{on_ex, is_free, is_var, is_val, is_ex, ex_names, named_by, end_from, is_unused, is_live, is_tainted, entry_names, cell_of}
+use Rattle.tables.specs.Parts.{Place, on_ex, is_free, is_var, is_val, is_ex, ex_names, named_by, end_from, is_unused, is_live, is_tainted, entry_names, cell_of}
 use Rattle.tables.specs.Look.{kind_at, holding_at, cell, entry, end, end_kind, safe}
 use Rattle.tables.specs.Laws.{entry_in_lem}
 use Rattle.searches.specs.Laws.{cells_count}

@@ -2,11 +2,11 @@
 #![tactic(auto)]
 
 ghost use Rattle.std.specs.Prelude.{◌≡◌};
-ghost use Rattle.tables.specs.Parts.{is_free, is_var, is_val, is_ex, reading_of, known_of, is_reading, is_known, is_asking, ex_names, named_by, ex_weight, ref_names, end_from, is_at};
+ghost use Rattle.tables.specs.Parts.{is_free, is_var, is_val, is_ex, reading_of, known_of, is_reading, is_known, is_asking, ex_names, named_by, ex_weight, ref_names, end_from};
 ghost use Rattle.tables.specs.Parts.{is_unused, is_live, is_tainted, entry_names, cell_of, entry_weight, is_empty, goes_to};
 
 use numbers::both;
-use tables::{Holding, Kind, Message, Place, Status};
+use tables::{EntryName, Holding, Kind, Message, Status};
 
 // ---- cells
 
@@ -119,15 +119,12 @@ pub fn ex_names(o: u8, e: u8, k: Kind) -> bool
 }
 
 // The entry that an EX names.
-pub fn named_by(k: Kind) -> Place
+pub fn named_by(k: Kind) -> Option<EntryName>
     ensures { result ≡ named_by k }
 {
     match k {
-        Kind::Ex { owner, entry, .. } => Place::At {
-            owner: owner,
-            entry: entry,
-        },
-        _ => Place::Nowhere,
+        Kind::Ex { owner, entry, .. } => Some(EntryName { owner, entry }),
+        _ => None,
     }
 }
 
@@ -164,16 +161,6 @@ pub fn end_from(k: Kind, c: u8) -> u8
         Kind::Val { .. } => c,
         Kind::Ref(d) => d,
         Kind::Ex { .. } => c,
-    }
-}
-
-// The entry e of worker o is at the place p.
-pub fn is_at(o: u8, e: u8, p: Place) -> bool
-    ensures { result ≡ is_at o e p }
-{
-    match p {
-        Place::Nowhere => false,
-        Place::At { owner, entry } => both(owner == o, entry == e),
     }
 }
 

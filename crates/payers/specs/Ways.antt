@@ -2,7 +2,7 @@
 use Prim.Native.Nat.{ℕ, zero, suc, ◌+◌, ◌-◌, ◌*◌, ◌/◌, ◌%◌, ◌<◌, ◌≤◌}
 use Rattle.std.proofs.Common.{arith, ◌∙◌}
 use Rattle.std.proofs.Math.Nat.{sub-zero}
-use Rattle.std.specs.Prelude.{◌≡◌, Bool, false, ◌&&◌, List, ltb, get_or}
+use Rattle.std.specs.Prelude.{◌≡◌, Bool, false, ◌&&◌, List, ltb, get_or, None, Some}
 use Rattle.std.proofs.Math.Path.{refl, sym, ap, ap₂}
 use Rattle.std.proofs.Math.Bool.{true, cond}
 use Rattle.std.proofs.Math.Logic.{⊎_elim}
@@ -15,10 +15,8 @@ use Rattle.tables.specs.declared.Kind.{Kind}
 use Rattle.tables.specs.declared.Kind.TheVariants.{Free, Var, Val, Ref, Ex}
 use Rattle.tables.specs.declared.Holding.{Holding}
 use Rattle.tables.specs.declared.Holding.TheVariants.{Unused, Live}
-use Rattle.tables.specs.declared.Place.{Place}
-use Rattle.tables.specs.declared.Place.TheVariants.{Nowhere, At}
 use Rattle.tables.specs.Machine.{Machine, Tables}
-use Rattle.tables.specs.Parts.{caller_of, named_by, end_from}
+use Rattle.tables.specs.Parts.{Place, caller_of, named_by, end_from}
 use Rattle.tables.specs.Look.{kind_at, cell, entry, end, end_kind, live_entries}
 use Rattle.tables.specs.Laws.{cell_in_lem}
 use Rattle.states.specs.Chains.{entry_end}
@@ -42,8 +40,8 @@ module _ (𝓜 : Machine) where
 
   -- and that the entry at a place names, which holds this
   abbrev pub next_cell : Place → Holding → ℕ
-  next_cell Nowhere x = cell_count
-  next_cell (At o e) x = led_to o x
+  next_cell None x = cell_count
+  next_cell (Some p) x = led_to p.owner x
 
 -- who pays by two tables of n cells, from the cell at i on, where at most m references are followed
 unfoldable pub pays_by : ℕ → List ℕ → List ℕ → ℕ → ℕ → ℕ

@@ -20,9 +20,8 @@ use Rattle.tables.specs.declared.Message.{Message}
 use Rattle.tables.specs.declared.Message.TheVariants.{Empty}
 use Rattle.tables.specs.declared.Outcome.TheVariants.{Done, Refused}
 use Rattle.tables.specs.declared.Refusal.TheVariants.{WorkerCount}
-use Rattle.tables.specs.declared.Place.TheVariants.{At}
 use Rattle.tables.specs.Machine.{Machine, Tables}
-use Rattle.tables.specs.Parts.{is_reading, is_asking, ex_names, is_live, entry_names, entry_weight, goes_to}
+use Rattle.tables.specs.Parts.{place, is_reading, is_asking, ex_names, is_live, entry_names, entry_weight, goes_to}
 use Rattle.tables.specs.Look.{cell, entry, booked, message}
 use Rattle.rules.specs.Answers.{Result}
 use Rattle.states.specs.Chains.{through, follow}
@@ -70,7 +69,7 @@ module _ (𝓜 : Machine) (p : ℕ) where
   nothing_held_lem o e =
       omega (arith, cells_nothing (cell_holds 𝓜 s o e) refl, slots_nothing (message_holds 𝓜 s o e) refl)
 
-  no_step : (a b o e : ℕ) → follow 𝓜 s (At a b) ≡ At o e → ⊥
+  no_step : (a b o e : ℕ) → follow 𝓜 s (place a b) ≡ place o e → ⊥
   unfolding follow
   no_step a b o e q = nowhere_at (sym (ap (through 𝓜 s a) (entry_free_lem a b)) ∙ q)
 

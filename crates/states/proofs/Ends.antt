@@ -8,9 +8,8 @@ use Rattle.tables.specs.declared.Kind.{Kind}
 use Rattle.tables.specs.declared.Kind.TheVariants.{Free, Var, Val, Ref, Ex}
 use Rattle.tables.specs.declared.Holding.{Holding}
 use Rattle.tables.specs.declared.Holding.TheVariants.{Unused, Live}
-use Rattle.tables.specs.declared.Place.TheVariants.{At}
 use Rattle.tables.specs.Machine.{Machine, Tables}
-use Rattle.tables.specs.Parts.{is_free, is_var, is_val, is_ex, named_by, end_from, is_live, entry_names, cell_of}
+use Rattle.tables.specs.Parts.{place, is_free, is_var, is_val, is_ex, named_by, end_from, is_live, entry_names, cell_of}
 use Rattle.tables.specs.Look.{cell, entry, end, end_kind}
 use Rattle.states.specs.Chains.{entry_end, follow}
 use Rattle.states.specs.Facts.{Facts}
@@ -24,7 +23,7 @@ VarOrVal k = (is_var k || is_val k) ≡ true
 
 pub data EndIs (k : Kind) : Type 0 where
   plain : VarOrVal k → EndIs k
-  leads : (a b : ℕ) → named_by k ≡ At a b → EndIs k
+  leads : (a b : ℕ) → named_by k ≡ place a b → EndIs k
 
 module _ (𝓜 : Machine) (s : Tables) (F : Facts 𝓜 s) where
   pub end_is : (o d : ℕ) → is_free (cell 𝓜 s o d) ≡ false → EndIs (end_kind 𝓜 s o d)
@@ -48,7 +47,7 @@ module _ (𝓜 : Machine) (s : Tables) (F : Facts 𝓜 s) where
       subst EndIs (sym (ap (entry_end 𝓜 s o) l.is)) (end_is o l.cell (live_fact 𝓜 s F o e l).2)
 
   -- a step from a live entry whose end names another
-  pub entry_leads : (o e a b : ℕ) → is_live (entry 𝓜 s o e) ≡ true → named_by (entry_end 𝓜 s o (entry 𝓜 s o e)) ≡ At a b → follow 𝓜 s (At o e) ≡ At a b
+  pub entry_leads : (o e a b : ℕ) → is_live (entry 𝓜 s o e) ≡ true → named_by (entry_end 𝓜 s o (entry 𝓜 s o e)) ≡ place a b → follow 𝓜 s (place o e) ≡ place a b
   entry_leads o e a b t q =
       let l = the_live (entry 𝓜 s o e) t in
       follow_live 𝓜 s o e l.is

@@ -1,4 +1,5 @@
 -- The facts of a sound state stay under a move that keeps what it must. Assumes nothing.
+use Rattle.std.specs.Prelude.{None}
 use Prim.Native.Nat.{ℕ}
 use native.Mathlib.Omega.{arith}
 use mathlib.Core.Path.{◌≡◌, refl, sym, ap, ◌∙◌}
@@ -12,7 +13,6 @@ use Rattle.numbers.specs.ListLaws.{total_cong}
 use Rattle.tables.specs.declared.Slot.{Slot}
 use Rattle.tables.specs.declared.Status.{Status}
 use Rattle.tables.specs.declared.Status.TheVariants.{Idle}
-use Rattle.tables.specs.declared.Place.TheVariants.{Nowhere}
 use Rattle.tables.specs.declared.Kind.{Kind}
 use Rattle.tables.specs.declared.Kind.TheVariants.{Free, Var, Val, Ref, Ex}
 use Rattle.tables.specs.declared.Holding.{Holding}
@@ -57,7 +57,7 @@ shown_plain (Ref d) k t q = q
 shown_plain (Ex o e n st a) k t q = absurd_bool (sym (ap is_ex q)) t
 
 -- a VAR or a VAL is its own end, and names no entry
-pub var_val_end : (k : Kind) (d : ℕ) → (is_var k || is_val k) ≡ true → (is_free k ≡ false) × (end_from k d ≡ d) × (named_by k ≡ Nowhere)
+pub var_val_end : (k : Kind) (d : ℕ) → (is_var k || is_val k) ≡ true → (is_free k ≡ false) × (end_from k d ≡ d) × (named_by k ≡ None)
 var_val_end Free d t = absurd_bool t refl
 var_val_end (Var caller) d t = (refl, refl, refl)
 var_val_end (Val n caller) d t = (refl, refl, refl)

@@ -1,5 +1,6 @@
 -- What a move keeps of chains: a step from an entry that is live before and after stays, an end that is a value stays, and a new step leads
 -- from a VAR that was bound to a safe EX, or from a new entry. Assumes nothing.
+use Rattle.std.specs.Prelude.{None, Some}
 use Prim.Native.Nat.{ℕ, zero, suc}
 use native.Mathlib.Omega.{arith}
 use mathlib.Core.Path.{◌≡◌, refl, sym, ap, subst, ◌∙◌}
@@ -10,10 +11,8 @@ use Rattle.tables.specs.declared.Kind.{Kind}
 use Rattle.tables.specs.declared.Kind.TheVariants.{Free, Var, Val, Ref, Ex}
 use Rattle.tables.specs.declared.Holding.{Holding}
 use Rattle.tables.specs.declared.Holding.TheVariants.{Unused, Live}
-use Rattle.tables.specs.declared.Place.{Place}
-use Rattle.tables.specs.declared.Place.TheVariants.{Nowhere, At}
 use Rattle.tables.specs.Machine.{Machine, Tables}
-use Rattle.tables.specs.Parts.{is_free, is_var, is_ex, named_by, is_live, entry_names, cell_of}
+use Rattle.tables.specs.Parts.{Place, place, is_free, is_var, is_ex, named_by, is_live, entry_names, cell_of}
 use Rattle.tables.specs.Look.{cell, entry, end_kind, safe, exported}
 use Rattle.states.specs.Chains.{entry_end, follow, ahead, EndsIn}
 use Rattle.states.specs.Facts.{Facts}
@@ -68,7 +67,7 @@ module _ (𝓜 : Machine) (s : Tables) (h : Move) (F : Facts 𝓜 s) (K : Keeps 
           let f = cell_fact 𝓜 s F v d q in
           let now = end_ref 𝓜 s' v d y here in
           let was = end_ref 𝓜 s v d y q in
-          let same = shown_name Nowhere (λ owner entr. At owner entr) (cell 𝓜 s' v y) (cell 𝓜 s v y) (referred_shown 𝓜 s h F K v d y q f.1) in
+          let same = shown_name None (λ owner entr. place owner entr) (cell 𝓜 s' v y) (cell 𝓜 s v y) (referred_shown 𝓜 s h F K v d y q f.1) in
           as_before (ap named_by now ∙ same ∙ sym (ap named_by was)) (λ n a p. absurd_bool f.1 (ap is_ex (sym was ∙ p)))
       go (Ex o e n st a) q t =
           let x' = ex_after 𝓜 s h F K v d q (exported-shown 𝓜 s h F K v d x (ap is_var q)) in
@@ -92,35 +91,35 @@ module _ (𝓜 : Machine) (s : Tables) (h : Move) (F : Facts 𝓜 s) (K : Keeps 
       (l'.weight, l'.tainted, l'.is ∙ ap (λ (y : ℕ). Live y l'.weight l'.tainted) same)
 
   -- a step stays
-  pub follow_kept : (a b o e : ℕ) → follow 𝓜 s (At a b) ≡ At o e → is_live (entry 𝓜 s' a b) ≡ true → follow 𝓜 s' (At a b) ≡ At o e
+  pub follow_kept : (a b o e : ℕ) → follow 𝓜 s (place a b) ≡ place o e → is_live (entry 𝓜 s' a b) ≡ true → follow 𝓜 s' (place a b) ≡ place o e
   follow_kept a b o e q t =
       let l = follow_from 𝓜 s a b o e q in
       let l' = after_live a b l t in
       let x = live_exported a b l in
-      let was : named_by (end_kind 𝓜 s a l.cell) ≡ At o e = sym (follow_live 𝓜 s a b l.is) ∙ q in
+      let was : named_by (end_kind 𝓜 s a l.cell) ≡ place o e = sym (follow_live 𝓜 s a b l.is) ∙ q in
       let now = follow_live 𝓜 s' a b l'.2 in
       now ∙ go l.cell was (end_kept a l.cell x.0 x.1)
     where
-      go : (d : ℕ) → named_by (end_kind 𝓜 s a d) ≡ At o e → EndKept a d → named_by (end_kind 𝓜 s' a d) ≡ At o e
+      go : (d : ℕ) → named_by (end_kind 𝓜 s a d) ≡ place o e → EndKept a d → named_by (end_kind 𝓜 s' a d) ≡ place o e
       go d was (as_before p v) = p ∙ was
       go d was (newly_bound y caller i p v) = nowhere_at (sym (ap named_by (end_self 𝓜 s a d (Var caller) i refl)) ∙ was)
 
   -- and so does a walk from a place that is live after the move
-  pub ahead_kept : (n : ℕ) (p : Place) (o e : ℕ) → LivePlace 𝓜 s' p → ahead 𝓜 s n p ≡ At o e → ahead 𝓜 s' n p ≡ At o e
+  pub ahead_kept : (n : ℕ) (p : Place) (o e : ℕ) → LivePlace 𝓜 s' p → ahead 𝓜 s n p ≡ place o e → ahead 𝓜 s' n p ≡ place o e
   unfolding ahead follow
   ahead_kept zero p o e l q = q
-  ahead_kept (suc n) Nowhere o e l q = nowhere_at (sym (ahead_nowhere 𝓜 s n) ∙ q)
-  ahead_kept (suc n) (At a b) o e l q = go (follow 𝓜 s (At a b)) refl (ahead_kept n (follow 𝓜 s (At a b)) o e)
+  ahead_kept (suc n) None o e l q = nowhere_at (sym (ahead_nowhere 𝓜 s n) ∙ q)
+  ahead_kept (suc n) (Some p) o e l q = go (follow 𝓜 s (Some p)) refl (ahead_kept n (follow 𝓜 s (Some p)) o e)
     where
-      go : (r : Place) → follow 𝓜 s (At a b) ≡ r
-          → (LivePlace 𝓜 s' (follow 𝓜 s (At a b)) → ahead 𝓜 s n (follow 𝓜 s (At a b)) ≡ At o e → ahead 𝓜 s' n (follow 𝓜 s (At a b)) ≡ At o e)
-          → ahead 𝓜 s' n (follow 𝓜 s' (At a b)) ≡ At o e
-      go Nowhere i rec = nowhere_at (sym (ahead_nowhere 𝓜 s n) ∙ sym (ap (ahead 𝓜 s n) i) ∙ q)
-      go (At a' b') i rec =
-          let kept = follow_kept a b a' b' i (l a b refl) in
-          let same : follow 𝓜 s' (At a b) ≡ follow 𝓜 s (At a b) = kept ∙ sym i in
+      go : (r : Place) → follow 𝓜 s (Some p) ≡ r
+          → (LivePlace 𝓜 s' (follow 𝓜 s (Some p)) → ahead 𝓜 s n (follow 𝓜 s (Some p)) ≡ place o e → ahead 𝓜 s' n (follow 𝓜 s (Some p)) ≡ place o e)
+          → ahead 𝓜 s' n (follow 𝓜 s' (Some p)) ≡ place o e
+      go None i rec = nowhere_at (sym (ahead_nowhere 𝓜 s n) ∙ sym (ap (ahead 𝓜 s n) i) ∙ q)
+      go (Some r) i rec =
+          let kept = follow_kept p.owner p.entry r.owner r.entry i (l p.owner p.entry refl) in
+          let same : follow 𝓜 s' (Some p) ≡ follow 𝓜 s (Some p) = kept ∙ sym i in
           ap (ahead 𝓜 s' n) same
-          ∙ rec (subst (LivePlace 𝓜 s') same (follow_place 𝓜 s' F' (At a b))) q
+          ∙ rec (subst (LivePlace 𝓜 s') same (follow_place 𝓜 s' F' (Some p))) q
 
   -- a chain that ends in a value goes on to
   pub ends_kept : (p : Place) (v : ℕ) → LivePlace 𝓜 s' p → EndsIn 𝓜 s p v → EndsIn 𝓜 s' p v

@@ -10,10 +10,8 @@ use Rattle.tables.specs.declared.Holding.{Holding}
 use Rattle.tables.specs.declared.Holding.TheVariants.{Unused, Live}
 use Rattle.tables.specs.declared.Message.{Message}
 use Rattle.tables.specs.declared.Message.TheVariants.{Empty, Reference, Release, Read, Answer, Ask, Supply}
-use Rattle.tables.specs.declared.Place.{Place}
-use Rattle.tables.specs.declared.Place.TheVariants.{At}
 use Rattle.tables.specs.Machine.{Machine, Tables}
-use Rattle.tables.specs.Parts.{is_free, is_ex, is_reading, is_asking, ex_names, named_by, entry_names, entry_weight}
+use Rattle.tables.specs.Parts.{Place, place, is_free, is_ex, is_reading, is_asking, ex_names, named_by, entry_names, entry_weight}
 use Rattle.tables.specs.Look.{cell, entry, end_kind, booked, free_cells, message}
 use Rattle.states.specs.Chains.{ahead, EndsIn}
 use Rattle.states.specs.Sound.{var_val_or_safe, reads_of, asks_of, held}
@@ -48,7 +46,7 @@ module _ (𝓜 : Machine) (s : Tables) where
   ReadAhead n Empty = Unit {0}
   ReadAhead n (Reference to o e w) = Unit {0}
   ReadAhead n (Release o e w) = Unit {0}
-  ReadAhead n (Read r c o e) = ahead 𝓜 s n (named_by (cell 𝓜 s r c)) ≡ At o e
+  ReadAhead n (Read r c o e) = ahead 𝓜 s n (named_by (cell 𝓜 s r c)) ≡ place o e
   ReadAhead n (Answer r c v) = Unit {0}
   ReadAhead n (Ask a c o e) = Unit {0}
   ReadAhead n (Supply a c w) = Unit {0}
@@ -84,7 +82,7 @@ module _ (𝓜 : Machine) (s : Tables) where
   KnownFact (Var caller) = Unit {0}
   KnownFact (Val n caller) = Unit {0}
   KnownFact (Ref d) = Unit {0}
-  KnownFact (Ex o e n st a) = StatusFact (At o e) st
+  KnownFact (Ex o e n st a) = StatusFact (place o e) st
 
   abbrev pub AnswerFact : Message → Type 0
   AnswerFact Empty = Unit {0}

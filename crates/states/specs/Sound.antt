@@ -7,9 +7,8 @@ use Rattle.tables.specs.declared.Holding.{Holding}
 use Rattle.tables.specs.declared.Holding.TheVariants.{Unused, Live}
 use Rattle.tables.specs.declared.Message.{Message}
 use Rattle.tables.specs.declared.Message.TheVariants.{Empty, Reference, Release, Read, Answer, Ask, Supply}
-use Rattle.tables.specs.declared.Place.{Place}
 use Rattle.tables.specs.Machine.{Machine, Tables}
-use Rattle.tables.specs.Parts.{on_ex, on_names, is_free, is_var, is_val, is_ex, reading_of, is_reading, is_asking, ex_names, named_by, is_at, is_unused, is_live, entry_names}
+use Rattle.tables.specs.Parts.{Place, on_ex, on_names, is_free, is_var, is_val, is_ex, reading_of, is_reading, is_asking, ex_names, named_by, is_at, is_unused, is_live, entry_names}
 use Rattle.tables.specs.Look.{cell, entry, end_kind, safe, booked, free_cells}
 use Rattle.states.specs.Chains.{follow}
 

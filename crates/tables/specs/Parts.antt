@@ -1,5 +1,5 @@
 -- Tests and changes of one part of the state: what a cell, an entry or a slot holds. Assumes nothing.
-use Rattle.std.specs.Prelude.{ℕ, Bool, true, false, ◌&&◌, eqb}
+use Rattle.std.specs.Prelude.{ℕ, Bool, true, false, ◌&&◌, eqb, Option, None, Some}
 use Rattle.tables.specs.declared.Status.{Status}
 use Rattle.tables.specs.declared.Status.TheVariants.{Idle, Reading, Known}
 use Rattle.tables.specs.declared.Kind.{Kind}
@@ -8,8 +8,17 @@ use Rattle.tables.specs.declared.Holding.{Holding}
 use Rattle.tables.specs.declared.Holding.TheVariants.{Unused, Live}
 use Rattle.tables.specs.declared.Message.{Message}
 use Rattle.tables.specs.declared.Message.TheVariants.{Empty, Reference, Release, Read, Answer, Ask, Supply}
-use Rattle.tables.specs.declared.Place.{Place}
-use Rattle.tables.specs.declared.Place.TheVariants.{Nowhere, At}
+use Rattle.tables.specs.declared.EntryName.{EntryName}
+
+-- ---- places
+
+-- where a walk along references stands: at the entry of this name, or nowhere
+abbrev pub Place : Type 0
+Place = Option EntryName
+
+-- the entry e of worker o
+abbrev pub place : ℕ → ℕ → Place
+place o e = Some (record { owner = o; entry = e })
 
 -- ---- cells
 
@@ -99,7 +108,7 @@ ex_names o e k = on_ex false (λ owner entry w st a. eqb owner o && eqb entry e)
 
 -- the entry that an EX names
 abbrev pub named_by : Kind → Place
-named_by k = on_ex Nowhere (λ o e w st a. At o e) k
+named_by k = on_ex None (λ o e w st a. place o e) k
 
 -- the weight of an EX
 abbrev pub ex_weight : Kind → ℕ
@@ -115,8 +124,8 @@ end_from k c = on_ref c (λ d. d) k
 
 -- the entry e of worker o is at this place
 abbrev pub is_at : ℕ → ℕ → Place → Bool
-is_at o e Nowhere = false
-is_at o e (At owner entry) = eqb owner o && eqb entry e
+is_at o e None = false
+is_at o e (Some p) = eqb p.owner o && eqb p.entry e
 
 -- ---- entries
 

@@ -139,11 +139,11 @@ pub struct State {
     pub slots: SlotTable,
 }
 
-// Where a walk along references stands: at an entry of an owner's, or nowhere.
-#[derive(Clone, Copy)]
-pub enum Place {
-    Nowhere,
-    At { owner: u8, entry: u8 },
+// What an EX or a message names: an entry of an owner's.
+#[derive(Clone, Copy, PartialEq, Eq)]
+pub struct EntryName {
+    pub owner: u8,
+    pub entry: u8,
 }
 
 // The calls, with their arguments.

@@ -1,5 +1,5 @@
 -- Point 4 by what a loop has read of one cell or message, and that this is what the point says. Assumes nothing.
-use Rattle.std.specs.Prelude.{ℕ, ◌*◌, ◌≡◌, Bool, true, false, ◌&&◌, ◌||◌, not, List, leb, eqb, length}
+use Rattle.std.specs.Prelude.{ℕ, ◌*◌, ◌≡◌, Bool, true, false, ◌&&◌, ◌||◌, not, List, leb, eqb, length, None}
 use Rattle.std.proofs.Math.Path.{refl}
 use Rattle.std.proofs.Common.{sym, ◌∙◌}
 use Rattle.numbers.specs.Below.{walk_meets, count_below}
@@ -9,29 +9,26 @@ use Rattle.tables.specs.declared.Kind.TheVariants.{Free, Var, Val, Ref, Ex}
 use Rattle.tables.specs.declared.Holding.{Holding}
 use Rattle.tables.specs.declared.Message.{Message}
 use Rattle.tables.specs.declared.Message.TheVariants.{Empty, Reference, Release, Read, Answer, Ask, Supply}
-use Rattle.tables.specs.declared.Place.{Place}
-use Rattle.tables.specs.declared.Place.TheVariants.{Nowhere, At}
 use Rattle.tables.specs.Machine.{Machine, Tables}
-use Rattle.tables.specs.Parts.{is_reading, is_asking, ex_names, named_by, is_at, is_live, is_empty}
+use Rattle.tables.specs.Parts.{Place, place, is_reading, is_asking, ex_names, named_by, is_at, is_live, is_empty}
 use Rattle.tables.specs.Look.{message_at, cell}
 use Rattle.searches.specs.Laws.{count_total}
 use Rattle.states.specs.Sound.{reads_for, asks_for, reads_of, asks_of, cell_awaited, message_has_its}
 use Rattle.places.specs.Places.{waiter_of, cell_for, entry_there}
-use Rattle.chains.specs.declared.Hop.{Hop}
 use Rattle.chains.specs.Hops.{step_by, Followed, reached_by}
 
 -- the entry that a message names
 abbrev pub named_entry : Message → Place
-named_entry Empty = Nowhere
-named_entry (Reference to o e n) = At o e
-named_entry (Release o e n) = At o e
-named_entry (Read r c o e) = At o e
-named_entry (Answer r c n) = Nowhere
-named_entry (Ask a c o e) = At o e
-named_entry (Supply a c n) = Nowhere
+named_entry Empty = None
+named_entry (Reference to o e n) = place o e
+named_entry (Release o e n) = place o e
+named_entry (Read r c o e) = place o e
+named_entry (Answer r c n) = None
+named_entry (Ask a c o e) = place o e
+named_entry (Supply a c n) = None
 
 -- a message has its EX, whose cell holds k, and names what it may, an entry that holds x
-abbrev pub message_seen : Machine → List Hop → Kind → Holding → Message → Bool
+abbrev pub message_seen : Machine → List Place → Kind → Holding → Message → Bool
 message_seen 𝓜 l k x Empty = true
 message_seen 𝓜 l k x (Reference to o e n) = is_live x && leb 1 n
 message_seen 𝓜 l k x (Release o e n) = is_live x && leb 1 n
@@ -47,7 +44,7 @@ unmarked false true x y h = absurd_bool h refl
 unmarked false false x y h = refl
 
 module _ (𝓜 : Machine) (s : Tables) where
-  message_has : {l : List Hop} → Followed 𝓜 s l (𝓜.workers * 𝓜.entries) → {r : Bool} (m : Message)
+  message_has : {l : List Place} → Followed 𝓜 s l (𝓜.workers * 𝓜.entries) → {r : Bool} (m : Message)
       → r ≡ message_seen 𝓜 l (cell 𝓜 s (waiter_of m) (cell_for m)) (entry_there 𝓜 s (named_entry m)) m → r ≡ message_has_its 𝓜 s m
   unfolding entry_there
   message_has f Empty h = h
@@ -59,7 +56,7 @@ module _ (𝓜 : Machine) (s : Tables) where
   message_has f (Supply a c n) h = h
 
   -- step by step as the code reads
-  pub message_has_by : {l : List Hop} → Followed 𝓜 s l (𝓜.workers * 𝓜.entries) → {w c : ℕ} {k : Kind} {at : Place} {x : Holding} {r : Bool} (m : Message)
+  pub message_has_by : {l : List Place} → Followed 𝓜 s l (𝓜.workers * 𝓜.entries) → {w c : ℕ} {k : Kind} {at : Place} {x : Holding} {r : Bool} (m : Message)
       → w ≡ waiter_of m → c ≡ cell_for m → k ≡ cell 𝓜 s w c → at ≡ named_entry m → x ≡ entry_there 𝓜 s at
       → r ≡ message_seen 𝓜 l k x m → r ≡ message_has_its 𝓜 s m
   message_has_by f m w c k at x h = message_has f m (rw (x, at, k, w, c) at h)

@@ -8,7 +8,7 @@ ghost use Rattle.waits.specs.Waits.{named_entry, message_seen};
 
 use chains::Hops;
 use numbers::{bit_of, both, either};
-use tables::{ALL_CELLS, ALL_SLOTS, CELL_ROW, Holding, Kind, Message, Place, State};
+use tables::{ALL_CELLS, ALL_SLOTS, CELL_ROW, EntryName, Holding, Kind, Message, State};
 
 // ---- each reading EX has exactly one Read or Answer, each asking EX exactly one Ask or Supply
 
@@ -74,35 +74,23 @@ fn cells_awaited(s: State) -> bool
 // ---- what messages name
 
 // The entry that the message names.
-fn named_entry(m: Message) -> Place
+fn named_entry(m: Message) -> Option<EntryName>
     ensures { result ≡ named_entry m }
 {
     match m {
-        Message::Empty => Place::Nowhere,
-        Message::Reference { owner, entry, .. } => Place::At {
-            owner: owner,
-            entry: entry,
-        },
-        Message::Release { owner, entry, .. } => Place::At {
-            owner: owner,
-            entry: entry,
-        },
-        Message::Read { owner, entry, .. } => Place::At {
-            owner: owner,
-            entry: entry,
-        },
-        Message::Answer { .. } => Place::Nowhere,
-        Message::Ask { owner, entry, .. } => Place::At {
-            owner: owner,
-            entry: entry,
-        },
-        Message::Supply { .. } => Place::Nowhere,
+        Message::Empty => None,
+        Message::Reference { owner, entry, .. } => Some(EntryName { owner, entry }),
+        Message::Release { owner, entry, .. } => Some(EntryName { owner, entry }),
+        Message::Read { owner, entry, .. } => Some(EntryName { owner, entry }),
+        Message::Answer { .. } => None,
+        Message::Ask { owner, entry, .. } => Some(EntryName { owner, entry }),
+        Message::Supply { .. } => None,
     }
 }
 
 // The message m has its EX, whose cell holds k, and names what it may: an entry that holds x.
-fn message_has_its(t: Hops, m: Message, k: Kind, x: Holding) -> bool
-    ensures { result ≡ message_seen eight t.hops k x m }
+fn message_has_its(t: &Hops, m: Message, k: Kind, x: Holding) -> bool
+    ensures { result ≡ message_seen eight t.now k x m }
 {
     let live = parts::is_live(x);
     match m {
@@ -110,7 +98,7 @@ fn message_has_its(t: Hops, m: Message, k: Kind, x: Holding) -> bool
         Message::Reference { weight, .. } => both(live, 1 <= weight),
         Message::Release { weight, .. } => both(live, 1 <= weight),
         Message::Read { owner, entry, .. } => {
-            let met = chains::reached(t, parts::named_by(k), owner, entry);
+            let met = chains::reached(t, parts::named_by(k), EntryName { owner, entry });
             both(both(parts::is_reading(k), live), met)
         }
         Message::Answer { .. } => parts::is_reading(k),
@@ -147,7 +135,7 @@ fn messages_have_theirs(s: State) -> bool
         let holding = z.holding;
         let k = places::cell_seen(w, c, there);
         let entry = places::place_seen(at, holding);
-        good = both(good, message_has_its(t, m, k, entry));
+        good = both(good, message_has_its(&t, m, k, entry));
     }
     good
 }

@@ -5,4 +5,4 @@ use Rattle.chains.specs.Hops.{Followed}
 use Rattle.chains.proofs.hops_of.Given as goal
 
 abbrev pub invariant-loop-i : goal.invariant-loop-i
-invariant-loop-i l = Followed eight (tables l.s) l.t.hops l.i × (l.i ≤ 128)
+invariant-loop-i l = Followed eight (tables l.s) l.hops l.i × (l.i ≤ 128)
