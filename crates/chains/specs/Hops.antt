@@ -10,10 +10,8 @@ use Rattle.numbers.specs.Below.{walk_meets}
 use Rattle.numbers.specs.Tests.{absurd_bool, or_else, and_l, and_r}
 use Rattle.numbers.specs.BelowLaws.{below_cases}
 use Rattle.tables.specs.declared.Kind.{Kind}
-use Rattle.tables.specs.declared.Holding.{Holding}
-use Rattle.tables.specs.declared.Holding.TheVariants.{Unused, Live}
 use Rattle.tables.specs.Machine.{Machine, Tables}
-use Rattle.tables.specs.Parts.{Place, place, named_by, end_from, is_at, is_unused, cell_of}
+use Rattle.tables.specs.Parts.{Holding, Place, place, named_by, end_from, is_at, is_unused, cell_of}
 use Rattle.tables.specs.Look.{holding_at, cell, entry, end, end_kind}
 use Rattle.tables.specs.Laws.{entry_in_lem}
 use Rattle.states.specs.Chains.{through, follow}
@@ -56,14 +54,14 @@ module _ (𝓜 : Machine) (s : Tables) where
 
   -- a free entry leads nowhere, and a live one where its cell's end does
   through_unused : (w : ℕ) {b : Bool} (x : Holding) → b ≡ is_unused x → b ≡ true → None ≡ through 𝓜 s w x
-  through_unused w Unused h e = refl
-  through_unused w (Live c n t) h e = absurd_bool e h
+  through_unused w None h e = refl
+  through_unused w (Some l) h e = absurd_bool e h
 
   through_live : (w : ℕ) {b : Bool} (x : Holding) → b ≡ is_unused x → b ≡ false
       → named_by (cell 𝓜 s w (end_from (cell 𝓜 s w (cell_of x)) (cell_of x))) ≡ through 𝓜 s w x
   unfolding end_kind end
-  through_live w Unused h e = absurd_bool h e
-  through_live w (Live c n t) h e = refl
+  through_live w None h e = absurd_bool h e
+  through_live w (Some l) h e = refl
 
   -- of the entry at the place i of the list
   module _
@@ -87,7 +85,7 @@ module _ (𝓜 : Machine) (s : Tables) where
   abbrev there : ℕ → ℕ → Bool
   there o e = ltb o 𝓜.workers && ltb e 𝓜.entries
 
-  entry_out : (o e : ℕ) → there o e ≡ false → entry 𝓜 s o e ≡ Unused
+  entry_out : (o e : ℕ) → there o e ≡ false → entry 𝓜 s o e ≡ None
   unfolding entry
   entry_out o e h = rw h
 

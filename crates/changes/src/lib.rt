@@ -13,11 +13,7 @@ ghost use Rattle.rules.specs.Calls.{all_free, valued, bound_to_ex, bound_to, gai
 ghost use Rattle.rules.specs.Calls.{by_location, by_reference, export_end, transferred, dropped, read_ex, read_at, ask_ex, ask_at};
 ghost use Rattle.changes.specs.BelowCeiling.{added};
 
-use tables::{
-    ALL_CELLS, ALL_ENTRIES, ALL_SLOTS, CEILING, Cell, Change, ENTRIES, Effect, Entry, EntryTable,
-    FIRST_WEIGHT, Holding, Kind, LAST_CALLER, Message, Outcome, Reply, Slot, SlotTable, State,
-    Status, Used,
-};
+use tables::{ALL_CELLS, ALL_ENTRIES, ALL_SLOTS, CEILING, Cell, Change, ENTRIES, Effect, Entry, EntryTable, FIRST_WEIGHT, Holding, Kind, LAST_CALLER, Message, Outcome, Reply, Slot, SlotTable, State, Status, Used, Live};
 
 // P workers, everything free.
 #[tactic(auto, unfolding(rules::specs::Calls::all_free))]
@@ -26,7 +22,7 @@ pub fn all_free(p: u8) -> State
 {
     let cells = [Cell { kind: Kind::Free }; ALL_CELLS];
     let entries = [Entry {
-        holding: Holding::Unused,
+        holding: None,
     }; ALL_ENTRIES];
     let slots = [Slot {
         message: Message::Empty,
@@ -248,20 +244,20 @@ fn gains(c: u8, taint: bool, x: Holding) -> Holding
     ensures { entry_weight x ≤ 1048576 → result ≡ gains 1024 c taint x }
 {
     match x {
-        Holding::Unused => Holding::Live {
+        None => Some(Live {
             cell: c,
             weight: FIRST_WEIGHT,
             tainted: taint,
-        },
-        Holding::Live {
+        }),
+        Some(Live {
             cell,
             weight,
             tainted,
-        } => Holding::Live {
+        }) => Some(Live {
             cell: cell,
             weight: add_weights(weight, FIRST_WEIGHT),
             tainted: tainted,
-        },
+        }),
     }
 }
 

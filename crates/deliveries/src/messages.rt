@@ -12,10 +12,7 @@ ghost use Rattle.rules.specs.Deliver.{deliver_home, deliver_away, deliver_releas
 ghost use Rattle.rules.specs.Refusals.{read_end};
 
 use changes::{add_weights, with_cell_and_message, with_entry_and_message};
-use tables::{
-    CEILING, CELLS, CellTable, Change, Effect, EntryTable, FIRST_WEIGHT, Holding, Kind, Message,
-    Outcome, Status,
-};
+use tables::{CEILING, CELLS, CellTable, Change, Effect, EntryTable, FIRST_WEIGHT, Holding, Kind, Message, Outcome, Status, Live};
 
 // ---- what becomes of an entry and of a cell
 
@@ -24,20 +21,20 @@ fn taken_off(w: u32, x: Holding) -> Holding
     ensures { result ≡ taken_off w x }
 {
     match x {
-        Holding::Unused => Holding::Unused,
-        Holding::Live {
+        None => None,
+        Some(Live {
             cell,
             weight,
             tainted,
-        } => {
+        }) => {
             if weight <= w {
-                Holding::Unused
+                None
             } else {
-                Holding::Live {
+                Some(Live {
                     cell: cell,
                     weight: weight - w,
                     tainted: tainted,
-                }
+                })
             }
         }
     }
@@ -138,16 +135,16 @@ fn grown(x: Holding) -> Holding
     ensures { result ≡ grown (min 1024 (1048576 - entry_weight x)) x }
 {
     match x {
-        Holding::Unused => Holding::Unused,
-        Holding::Live {
+        None => None,
+        Some(Live {
             cell,
             weight,
             tainted,
-        } => Holding::Live {
+        }) => Some(Live {
             cell: cell,
             weight: weight + supply_from(weight),
             tainted: tainted,
-        },
+        }),
     }
 }
 
@@ -156,8 +153,8 @@ fn entry_end(cells: CellTable, o: u8, x: Holding) -> Kind
     ensures { (t : Tables) → t.cells ≡ cells → result ≡ entry_end eight t o x }
 {
     match x {
-        Holding::Unused => Kind::Free,
-        Holding::Live { cell, .. } => {
+        None => Kind::Free,
+        Some(Live { cell, .. }) => {
             let look = lookups::see(cells, o, cell);
             look.ending
         }

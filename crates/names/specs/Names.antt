@@ -1,6 +1,6 @@
 -- Points 2 and 3 by what a loop has read of one cell or entry, and that this is what the points say. Assumes nothing.
 use Prim.Native.Nat.{ℕ, ◌+◌, ◌*◌, ◌<◌}
-use Rattle.std.specs.Prelude.{◌≡◌, Bool, true, false, ◌&&◌, ◌||◌, not, ltb, leb, eqb}
+use Rattle.std.specs.Prelude.{None, Some, ◌≡◌, Bool, true, false, ◌&&◌, ◌||◌, not, ltb, leb, eqb}
 use Rattle.std.proofs.Math.Path.{refl, ap}
 use Rattle.std.proofs.Common.{sym, ◌∙◌}
 use Rattle.numbers.specs.Below.{count_below, bit}
@@ -8,10 +8,8 @@ use Rattle.numbers.specs.BelowLaws.{sum_cong}
 use Rattle.numbers.specs.Tests.{absurd_bool}
 use Rattle.tables.specs.declared.Kind.{Kind}
 use Rattle.tables.specs.declared.Kind.TheVariants.{Free, Var, Val, Ref, Ex}
-use Rattle.tables.specs.declared.Holding.{Holding}
-use Rattle.tables.specs.declared.Holding.TheVariants.{Unused, Live}
 use Rattle.tables.specs.Machine.{Machine, Tables}
-use Rattle.tables.specs.Parts.{Place, on_ex, is_free, is_var, is_val, is_ex, ex_names, named_by, end_from, is_unused, is_live, is_tainted, entry_names, cell_of}
+use Rattle.tables.specs.Parts.{Holding, live, Place, on_ex, is_free, is_var, is_val, is_ex, ex_names, named_by, end_from, is_unused, is_live, is_tainted, entry_names, cell_of}
 use Rattle.tables.specs.Look.{kind_at, holding_at, cell, entry, end, end_kind, safe}
 use Rattle.tables.specs.Laws.{entry_in_lem}
 use Rattle.searches.specs.Laws.{cells_count}
@@ -40,8 +38,8 @@ safe_seen w x k = on_ex false (λ o e n st a. ltb o w && not (is_tainted x)) k
 
 -- an entry names a cell as it may: k is what the cell holds, l its end, x the entry that an EX there names, and so many entries name it
 abbrev pub entry_names_seen : ℕ → Kind → Kind → Holding → ℕ → Holding → Bool
-entry_names_seen w k l x twins Unused = true
-entry_names_seen w k l x twins (Live c n t) = not (is_free k) && leb twins 1 && (t || (is_var l || is_val l || safe_seen w x l))
+entry_names_seen w k l x twins None = true
+entry_names_seen w k l x twins (Some y) = not (is_free k) && leb twins 1 && (y.tainted || (is_var l || is_val l || safe_seen w x l))
 
 -- what names nothing, and an entry that is free, the points leave alone
 module _ (𝓜 : Machine) (s : Tables) (w c : ℕ) where
@@ -53,8 +51,8 @@ module _ (𝓜 : Machine) (s : Tables) (w c : ℕ) where
   nothing_named (Ex o f n st a) h e = absurd_bool e h
 
   pub unused_names : {b : Bool} (x : Holding) → b ≡ is_unused x → b ≡ true → entry_names_cell 𝓜 s w c x ≡ true
-  unused_names Unused h e = refl
-  unused_names (Live d n t) h e = absurd_bool e h
+  unused_names None h e = refl
+  unused_names (Some l) h e = absurd_bool e h
 
 module _ (𝓜 : Machine) (s : Tables) (w : ℕ) (inside : w < 𝓜.workers) where
   cell_names_lem : (c : ℕ) {r : Bool} {twins : ℕ} (k : Kind)
@@ -88,8 +86,8 @@ module _ (𝓜 : Machine) (s : Tables) (w : ℕ) (inside : w < 𝓜.workers) whe
       → r ≡ entry_names_seen w (cell 𝓜 s w (cell_of x)) (end_kind 𝓜 s w (cell_of x)) (entry_there 𝓜 s (named_by (end_kind 𝓜 s w (cell_of x)))) twins x
       → r ≡ entry_names_cell 𝓜 s w e x
   unfolding entries_naming
-  entry_names_lem e Unused h g = g
-  entry_names_lem e {twins = twins} (Live c n t) h g =
+  entry_names_lem e None h g = g
+  entry_names_lem e {twins = twins} (live c n t) h g =
       let names : Holding → ℕ = λ y. bit (entry_names c y) in
       let count : twins ≡ count_below 𝓜.entries (λ d. entry_names c (entry 𝓜 s w d)) =
       h ∙ sum_cong 𝓜.entries _ _ (λ d l. ap names (sym (entry_in_lem 𝓜 s w d inside l))) in

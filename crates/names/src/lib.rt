@@ -7,7 +7,7 @@ ghost use Rattle.states.specs.Sound.{point2, point3};
 ghost use Rattle.names.specs.Names.{cell_names_seen, names_nothing, safe_seen, entry_names_seen};
 
 use numbers::{bit_of, both, either};
-use tables::{ALL_CELLS, ALL_ENTRIES, CELL_ROW, ENTRY_ROW, Holding, Kind, State};
+use tables::{ALL_CELLS, ALL_ENTRIES, CELL_ROW, ENTRY_ROW, Holding, Kind, State, Live};
 
 // ---- point 2
 
@@ -90,8 +90,8 @@ fn entry_names(w: u8, x: Holding, k: Kind, end: Kind, entry: Holding, twins: u8)
     ensures { result ≡ entry_names_seen w k end entry twins x }
 {
     match x {
-        Holding::Unused => true,
-        Holding::Live { tainted, .. } => {
+        None => true,
+        Some(Live { tainted, .. }) => {
             let plain = either(parts::is_var(end), parts::is_val(end));
             let good = either(plain, is_safe(w, end, entry));
             both(both(!parts::is_free(k), twins <= 1), either(tainted, good))

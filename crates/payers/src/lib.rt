@@ -7,7 +7,7 @@ ghost use Rattle.tables.specs.Parts.{caller_of};
 ghost use Rattle.tables.specs.Machine.{eight, tables};
 ghost use Rattle.payers.specs.Ways.{table_place, led_to, next_cell, ways_of, pays_by, payers_of};
 
-use tables::{ALL_CELLS, CELL_ROW, CELLS, EntryName, Holding, Kind, State, WORKERS};
+use tables::{ALL_CELLS, CELL_ROW, CELLS, EntryName, Holding, Kind, State, WORKERS, Live};
 
 // No caller, and no cell: past the last of each.
 pub const NOBODY: u16 = 256;
@@ -54,8 +54,8 @@ fn led_to(w: u8, x: Holding) -> u16
     ensures { result ≡ led_to eight w x }
 {
     match x {
-        Holding::Unused => NO_CELL,
-        Holding::Live { cell, .. } => table_place(w, cell),
+        None => NO_CELL,
+        Some(Live { cell, .. }) => table_place(w, cell),
     }
 }
 

@@ -6,12 +6,10 @@ use Rattle.std.proofs.Math.Bool.{true, false, cond}
 use Rattle.std.proofs.Math.Dec.{ltb}
 use Rattle.tables.specs.declared.Kind.{Kind}
 use Rattle.tables.specs.declared.Kind.TheVariants.{Free}
-use Rattle.tables.specs.declared.Holding.{Holding}
-use Rattle.tables.specs.declared.Holding.TheVariants.{Unused}
 use Rattle.tables.specs.declared.Message.{Message}
 use Rattle.tables.specs.declared.Message.TheVariants.{Empty, Reference, Release, Read, Answer, Ask, Supply}
 use Rattle.tables.specs.Machine.{Machine, Tables}
-use Rattle.tables.specs.Parts.{Place, ex_names}
+use Rattle.tables.specs.Parts.{Holding, Place, ex_names}
 use Rattle.tables.specs.Look.{kind_at, holding_at, cell, entry}
 
 -- an EX that names the entry at this place
@@ -50,13 +48,13 @@ module _ (𝓜 : Machine) where
   place_index (Some p) = cond (ltb p.owner 𝓜.workers && ltb p.entry 𝓜.entries) (p.owner * 𝓜.entries + p.entry) 0
 
   unfoldable pub place_seen : Place → Holding → Holding
-  place_seen None x = Unused
-  place_seen (Some p) x = cond (ltb p.owner 𝓜.workers && ltb p.entry 𝓜.entries) x Unused
+  place_seen None x = None
+  place_seen (Some p) x = cond (ltb p.owner 𝓜.workers && ltb p.entry 𝓜.entries) x None
 
 module _ (𝓜 : Machine) (s : Tables) where
   -- what the entry at this place holds
   unfoldable pub entry_there : Place → Holding
-  entry_there None = Unused
+  entry_there None = None
   entry_there (Some p) = entry 𝓜 s p.owner p.entry
 
   seen_cell : (w c : ℕ) → cell_seen 𝓜 w c (kind_at s.cells (cell_index 𝓜 w c)) ≡ cell 𝓜 s w c
@@ -72,7 +70,7 @@ module _ (𝓜 : Machine) (s : Tables) where
   seen_entry None = refl
   seen_entry (Some p) = go (ltb p.owner 𝓜.workers && ltb p.entry 𝓜.entries)
     where
-      go : (b : Bool) → cond b (holding_at s.entries (cond b (p.owner * 𝓜.entries + p.entry) 0)) Unused ≡ cond b (holding_at s.entries (p.owner * 𝓜.entries + p.entry)) Unused
+      go : (b : Bool) → cond b (holding_at s.entries (cond b (p.owner * 𝓜.entries + p.entry) 0)) None ≡ cond b (holding_at s.entries (p.owner * 𝓜.entries + p.entry)) None
       go true = refl
       go false = refl
 

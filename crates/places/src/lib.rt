@@ -57,10 +57,10 @@ fn entry_seen(w: u8, e: u8, x: Holding) -> Holding
     ensures { result ≡ place_seen eight (place w e) x }
 {
     if WORKERS <= w {
-        return Holding::Unused;
+        return None;
     }
     if ENTRIES <= e {
-        return Holding::Unused;
+        return None;
     }
     x
 }
@@ -83,7 +83,7 @@ pub fn place_seen(p: Option<EntryName>, x: Holding) -> Holding
     ensures { result ≡ place_seen eight p x }
 {
     match p {
-        None => Holding::Unused,
+        None => None,
         Some(EntryName { owner, entry }) => entry_seen(owner, entry, x),
     }
 }

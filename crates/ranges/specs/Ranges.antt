@@ -1,13 +1,11 @@
 -- Point 1 by what a loop tests of one cell or entry: what is free is in range, and what is not stands at a worker below P. Assumes nothing.
-use Rattle.std.specs.Prelude.{ℕ, ◌≡◌, refl, Bool, true, false, ◌&&◌, ◌||◌}
+use Rattle.std.specs.Prelude.{None, Some, ℕ, ◌≡◌, refl, Bool, true, false, ◌&&◌, ◌||◌}
 use Rattle.std.proofs.Common.{sym, ◌∙◌}
 use Rattle.numbers.specs.Tests.{absurd_bool}
 use Rattle.tables.specs.declared.Kind.{Kind}
 use Rattle.tables.specs.declared.Kind.TheVariants.{Free, Var, Val, Ref, Ex}
-use Rattle.tables.specs.declared.Holding.{Holding}
-use Rattle.tables.specs.declared.Holding.TheVariants.{Unused, Live}
 use Rattle.tables.specs.Machine.{Machine, Tables}
-use Rattle.tables.specs.Parts.{is_free, is_unused}
+use Rattle.tables.specs.Parts.{Holding, is_free, is_unused}
 use Rattle.states.specs.Sound.{worker_in, kind_in_range, holding_in_range, cell_in_range, entry_in_range}
 
 -- a is that the worker is below P
@@ -32,8 +30,8 @@ module _ (𝓜 : Machine) (s : Tables) (w c : ℕ) where
   cell_in_range_by k h t e = e ∙ rw (sym h ∙ t) (part_in_use (worker_in 𝓜 s w) (kind_in_range 𝓜 s k))
 
   pub unused_in_range : {b : Bool} (x : Holding) → b ≡ is_unused x → b ≡ true → entry_in_range 𝓜 s w c x ≡ true
-  unused_in_range Unused h t = free_part (worker_in 𝓜 s w)
-  unused_in_range (Live d n tainted) h t = absurd_bool t h
+  unused_in_range None h t = free_part (worker_in 𝓜 s w)
+  unused_in_range (Some l) h t = absurd_bool t h
 
   pub entry_in_range_by : {b r : Bool} (x : Holding) → b ≡ is_unused x → b ≡ false → r ≡ (worker_in 𝓜 s w && holding_in_range 𝓜 s x) → r ≡ entry_in_range 𝓜 s w c x
   entry_in_range_by x h t e = e ∙ rw (sym h ∙ t) (part_in_use (worker_in 𝓜 s w) (holding_in_range 𝓜 s x))

@@ -7,10 +7,7 @@ ghost use Rattle.states.specs.Sound.{point1, each_cell, each_entry, each_message
 ghost use Rattle.states.specs.Sound.{kind_in_range, holding_in_range, message_in_range, cell_in_range, entry_in_range};
 
 use numbers::both;
-use tables::{
-    ALL_CELLS, ALL_ENTRIES, ALL_SLOTS, CEILING, CELL_ROW, CELLS, CellTable, ENTRIES, ENTRY_ROW,
-    EntryTable, Holding, Kind, Message, SlotTable, State, WORKERS,
-};
+use tables::{ALL_CELLS, ALL_ENTRIES, ALL_SLOTS, CEILING, CELL_ROW, CELLS, CellTable, ENTRIES, ENTRY_ROW, EntryTable, Holding, Kind, Message, SlotTable, State, WORKERS, Live};
 
 // With P workers.
 fn kind_in_range(p: u8, k: Kind) -> bool
@@ -34,8 +31,8 @@ fn holding_in_range(x: Holding) -> bool
     ensures { (s : Tables) → result ≡ holding_in_range eight s x }
 {
     match x {
-        Holding::Unused => true,
-        Holding::Live { cell, weight, .. } => both(
+        None => true,
+        Some(Live { cell, weight, .. }) => both(
             both(cell < CELLS, weight <= CEILING),
             1 <= weight,
         ),

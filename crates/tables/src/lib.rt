@@ -64,16 +64,16 @@ pub struct Cell {
     pub kind: Kind,
 }
 
-// What an export entry holds.
-#[derive(Clone, Copy)]
-pub enum Holding {
-    Unused,
-    Live {
-        cell: u8,
-        weight: u32,
-        tainted: bool,
-    },
+// A live export entry: the cell that it names, its weight, and whether it is tainted.
+#[derive(Clone, Copy, PartialEq, Eq)]
+pub struct Live {
+    pub cell: u8,
+    pub weight: u32,
+    pub tainted: bool,
 }
+
+// What an export entry holds: it is live, or free.
+pub type Holding = Option<Live>;
 
 #[derive(Clone, Copy)]
 pub struct Entry {

@@ -6,11 +6,10 @@ use Rattle.numbers.specs.Below.{walk_meets, count_below}
 use Rattle.numbers.specs.Tests.{absurd_bool}
 use Rattle.tables.specs.declared.Kind.{Kind}
 use Rattle.tables.specs.declared.Kind.TheVariants.{Free, Var, Val, Ref, Ex}
-use Rattle.tables.specs.declared.Holding.{Holding}
 use Rattle.tables.specs.declared.Message.{Message}
 use Rattle.tables.specs.declared.Message.TheVariants.{Empty, Reference, Release, Read, Answer, Ask, Supply}
 use Rattle.tables.specs.Machine.{Machine, Tables}
-use Rattle.tables.specs.Parts.{Place, place, is_reading, is_asking, ex_names, named_by, is_at, is_live, is_empty}
+use Rattle.tables.specs.Parts.{Holding, Place, place, is_reading, is_asking, ex_names, named_by, is_at, is_live, is_empty}
 use Rattle.tables.specs.Look.{message_at, cell}
 use Rattle.searches.specs.Laws.{count_total}
 use Rattle.states.specs.Sound.{reads_for, asks_for, reads_of, asks_of, cell_awaited, message_has_its}

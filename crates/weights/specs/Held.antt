@@ -1,5 +1,5 @@
 -- Point 5 by what a loop has read of one message and added up for one entry, and that this is what the point says. Assumes nothing.
-use Rattle.std.specs.Prelude.{ℕ, ◌+◌, ◌*◌, ◌≡◌, refl, Bool, true, false, ◌&&◌, cond, eqb, length}
+use Rattle.std.specs.Prelude.{None, Some, ℕ, ◌+◌, ◌*◌, ◌≡◌, refl, Bool, true, false, ◌&&◌, cond, eqb, length}
 use Rattle.std.proofs.Common.{sym, ◌∙◌}
 use Rattle.numbers.specs.Below.{sum_below}
 use Rattle.numbers.specs.Tests.{absurd_bool}
@@ -7,12 +7,10 @@ use Rattle.numbers.specs.Lists.{total}
 use Rattle.numbers.specs.ListLaws.{total_below}
 use Rattle.tables.specs.declared.Kind.{Kind}
 use Rattle.tables.specs.declared.Kind.TheVariants.{Free}
-use Rattle.tables.specs.declared.Holding.{Holding}
-use Rattle.tables.specs.declared.Holding.TheVariants.{Unused, Live}
 use Rattle.tables.specs.declared.Message.{Message}
 use Rattle.tables.specs.declared.Message.TheVariants.{Empty, Reference, Release, Read, Answer, Ask, Supply}
 use Rattle.tables.specs.Machine.{Machine, Tables}
-use Rattle.tables.specs.Parts.{ex_names, is_unused}
+use Rattle.tables.specs.Parts.{Holding, ex_names, is_unused}
 use Rattle.tables.specs.Look.{kind_at, message_at, cell}
 use Rattle.states.specs.Sound.{cell_holds, message_holds, held, entry_weighs}
 use Rattle.places.specs.Places.{waiter_of, cell_for}
@@ -39,8 +37,8 @@ holds_nothing (Supply a c n) = false
 
 -- an entry weighs n, where it is live
 abbrev pub weighs_seen : ℕ → Holding → Bool
-weighs_seen n Unused = true
-weighs_seen n (Live c w t) = eqb w n
+weighs_seen n None = true
+weighs_seen n (Some l) = eqb l.weight n
 
 module _ (𝓜 : Machine) (s : Tables) (o e : ℕ) where
   message_holds_lem : (m : Message) → message_holds_seen o e (cell 𝓜 s (waiter_of m) (cell_for m)) m ≡ message_holds 𝓜 s o e m
@@ -75,13 +73,13 @@ module _ (𝓜 : Machine) (s : Tables) (o e : ℕ) where
 
   -- a free entry the point leaves alone
   pub unused_weighs : {b : Bool} (x : Holding) → b ≡ is_unused x → b ≡ true → entry_weighs 𝓜 s o e x ≡ true
-  unused_weighs Unused h t = refl
-  unused_weighs (Live c w tainted) h t = absurd_bool t h
+  unused_weighs None h t = refl
+  unused_weighs (Some l) h t = absurd_bool t h
 
   pub entry_weighs_by : {cells slots : ℕ} {r : Bool} (x : Holding) → length s.cells ≡ 𝓜.workers * 𝓜.cells → length s.slots ≡ 𝓜.slots
       → cells ≡ sum_below (𝓜.workers * 𝓜.cells) (λ j. cell_holds 𝓜 s o e (kind_at s.cells j))
       → slots ≡ sum_below 𝓜.slots (λ j. message_holds 𝓜 s o e (message_at s.slots j))
       → r ≡ weighs_seen (cells + slots) x → r ≡ entry_weighs 𝓜 s o e x
   unfolding held
-  entry_weighs_by Unused p q cells slots h = h
-  entry_weighs_by (Live c w t) p q cells slots h = rw (cells ∙ cells_hold p, slots ∙ messages_hold q) at h
+  entry_weighs_by None p q cells slots h = h
+  entry_weighs_by (Some l) p q cells slots h = rw (cells ∙ cells_hold p, slots ∙ messages_hold q) at h

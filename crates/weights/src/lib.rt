@@ -7,7 +7,9 @@ ghost use Rattle.states.specs.Sound.{cell_holds, point5, point6};
 ghost use Rattle.weights.specs.Held.{message_holds_seen, holds_nothing, weighs_seen};
 
 use numbers::{bit_of, both};
-use tables::{ALL_CELLS, ALL_ENTRIES, ALL_SLOTS, CELLS, ENTRY_ROW, Holding, Kind, Message, State};
+use tables::{
+    ALL_CELLS, ALL_ENTRIES, ALL_SLOTS, CELLS, ENTRY_ROW, Holding, Kind, Live, Message, State,
+};
 
 // ---- point 5
 
@@ -77,8 +79,8 @@ fn weighs(x: Holding, n: u64) -> bool
     ensures { result ≡ weighs_seen n x }
 {
     match x {
-        Holding::Unused => true,
-        Holding::Live { weight, .. } => weight as u64 == n,
+        None => true,
+        Some(Live { weight, .. }) => weight as u64 == n,
     }
 }
 
