@@ -1,3 +1,2 @@
--- A cell with its end, and what stands past the last slot.
+-- A cell with its end.
 pub mod Seen
-pub mod Past

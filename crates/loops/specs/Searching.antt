@@ -1,6 +1,7 @@
 -- A loop that searches, and one that counts: their invariants as records, so that a law finds its test, bound and place by itself, and the
 -- set of laws that closes such a loop's needs. Assumes nothing.
-use Rattle.std.specs.Prelude.{ℕ, ◌+◌, ◌-◌, ◌≤◌, ◌<◌, ◌≡◌, Bool, true, false}
+use Rattle.std.specs.Prelude.{ℕ, ◌+◌, ◌-◌, ◌≤◌, ◌<◌, ◌≡◌, refl, Bool, true, false}
+use mir.Val.{bool_byte}
 use Rattle.std.proofs.Common.{arith, sym, ap, ◌∙◌, rules}
 use Rattle.numbers.specs.Below.{bit, count_below, lowest_from, lowest}
 use Rattle.numbers.specs.BelowLaws.{lowest_next, lowest_hit, lowest_end, lowest_start, sum_zero, sum_next}
@@ -45,6 +46,15 @@ count_step {p} {n} {i} {k} {r} {b} s h e t =
     let so = s.sofar in
     let next = sum_next i (λ j. bit (p j)) in
     record { within = omega arith; sofar = omega arith; small = omega arith }
+
+-- a test as a byte is its bit, and at most 1
+pub byte_is_bit : (b : Bool) → bool_byte b ≡ bit b
+byte_is_bit true = refl
+byte_is_bit false = refl
+
+pub byte_small : (b : Bool) → bool_byte b ≤ 1
+byte_small true = omega arith
+byte_small false = omega arith
 
 pub count_end : {p : ℕ → Bool} {n i k : ℕ} → Counting p n i k → n ≤ i → k ≡ count_below n p
 count_end {p} {n} {i} {k} s j =

@@ -1,8 +1,0 @@
--- The loop of `searches::booked`: how far it has come.
-use Rattle.loops.specs.Searching.{Counting}
-use Rattle.tables.specs.Parts.{goes_to}
-use Rattle.tables.specs.Look.{message_at}
-use Rattle.searches.proofs.booked.Given as goal
-
-abbrev pub invariant-loop-k : goal.invariant-loop-k
-invariant-loop-k l = Counting (λ j. goes_to l.w (message_at l.slots j)) 64 l.k l.n
