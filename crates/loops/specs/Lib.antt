@@ -5,4 +5,4 @@ pub mod Filling
 pub mod Passing
 pub mod Walking
 pub mod Summing
-pub mod Chaining
+pub mod Every

@@ -4,7 +4,7 @@ use Rattle.std.proofs.lemmas.Iterator.{YieldsList-from_slice}
 use Rattle.std.proofs.lemmas.Iterator.Consumers.{YieldsList-from_enumerate}
 use Rattle.tables.specs.Machine.{eight, tables}
 use Rattle.states.specs.Sound.{entry_in_range}
-use Rattle.loops.specs.Chaining.{all_placed}
+use Rattle.loops.specs.Every.{all_placed}
 use Rattle.ranges.proofs.entries_in_range.Goals as goal
 
 pub returns : goal.returns

@@ -3,7 +3,7 @@ use Rattle.std.proofs.Common.{rules}
 use Rattle.std.proofs.lemmas.Iterator.{YieldsList-from_slice}
 use Rattle.tables.specs.Machine.{eight, tables}
 use Rattle.states.specs.Sound.{message_in_range}
-use Rattle.loops.specs.Chaining.{all_each}
+use Rattle.loops.specs.Every.{all_each}
 use Rattle.ranges.proofs.messages_in_range.Goals as goal
 
 pub returns : goal.returns
