@@ -43,3 +43,8 @@ module _ (𝓜 : Machine) (s : Tables) (w : ℕ) where
   pub cells_counted : (q : Kind → Bool) {l : List Cell} {r : ℕ} → s.cells ≡ l → length l ≡ 𝓜.workers * 𝓜.cells
       → r ≡ count_below 𝓜.cells (λ c. q (row_at 𝓜.cells (record { kind = Free }) l w c).kind) → r ≡ count_below 𝓜.cells (λ c. q (cell 𝓜 s w c))
   cells_counted q e long r = r ∙ sum_cong 𝓜.cells _ _ (λ c _. ap (λ (k : Kind). bit (q k)) (cell_read 𝓜 s w c e long refl))
+
+  pub entries_counted : (q : Holding → Bool) {l : List Entry} {r : ℕ} → s.entries ≡ l → length l ≡ 𝓜.workers * 𝓜.entries
+      → r ≡ count_below 𝓜.entries (λ e. q (row_at 𝓜.entries (record { holding = None }) l w e).holding)
+      → r ≡ count_below 𝓜.entries (λ e. q (entry 𝓜 s w e))
+  entries_counted q h long r = r ∙ sum_cong 𝓜.entries _ _ (λ e _. ap (λ (x : Holding). bit (q x)) (entry_read 𝓜 s w e h long refl))
