@@ -9,8 +9,8 @@ use tables::State;
 
 // The place, 1 to 6, of the first broken point; 0 where none is.
 #[tactic(auto, using(crate::specs::InTurn::broken, crate::specs::InTurn::kept), unfolding(states::specs::Sound::first_broken))]
-pub fn first_broken(s: State) -> u8
-    ensures { result ≡ first_broken eight (tables s) }
+pub fn first_broken(s: &State) -> u8
+    ensures { result ≡ first_broken eight (tables s.now) }
 {
     if !ranges::point_1(s) {
         return 1;
@@ -34,8 +34,8 @@ pub fn first_broken(s: State) -> u8
 }
 
 #[tactic(auto, using(crate::specs::InTurn::none_broken))]
-pub fn is_sound(s: State) -> bool
-    ensures { result ≡ sound eight (tables s) }
+pub fn is_sound(s: &State) -> bool
+    ensures { result ≡ sound eight (tables s.now) }
 {
     first_broken(s) == 0
 }
