@@ -1,13 +1,16 @@
 -- A chain of an iterator's methods that holds each element of a list to a test: it answers what `each` says of the list. Assumes nothing.
-use Rattle.std.specs.Prelude.{ℕ, suc, ◌<◌, ◌≡◌, refl, Bool, true, false, ◌&&◌, List, [], ◌∷◌, length, HoldsAt, Option, MatchOption}
+use Rattle.std.specs.Prelude.{ℕ, suc, ◌<◌, ◌≡◌, refl, Bool, true, false, ◌&&◌, List, [], ◌∷◌, length, get_or, HoldsAt, Option, MatchOption}
 use Rattle.std.specs.Bool.{MatchBool}
 use Rattle.std.specs.Fn.{Called}
 use Rattle.std.specs.Iterator.{YieldsThen}
-use Rattle.std.specs.List.{AllWithin, FoldsTo, enumerate_from}
-use Rattle.std.proofs.Common.{arith, sym, ap, ◌∙◌, ⊎_elim, add-one}
+use Rattle.std.specs.List.{AllWithin, FoldsTo, enumerate_from, range_with_len}
+use Rattle.std.proofs.Common.{arith, sym, ap, ◌∙◌, ⊎_elim, add-one, zero-add}
 use Rattle.std.proofs.lemmas.Bool.{MatchBool-at_true, MatchBool-at_false}
 use Rattle.std.proofs.lemmas.Iterator.{YieldsList, cases_from_all}
+use Rattle.std.proofs.lemmas.List.FromFn.{length-range_with_len, get_or-range_with_len}
 use denote.Param.Members.{Mut}
+use Rattle.numbers.specs.Below.{all_below}
+use Rattle.numbers.specs.BelowLaws.{all_at, all_of}
 use Rattle.numbers.specs.Lists.{each_from, each}
 use Rattle.numbers.specs.ListLaws.{each_at, each_of}
 use Rattle.numbers.specs.Tests.{absurd_bool, or_else, bool_eq}
@@ -61,3 +64,18 @@ pub all_placed : {S I A F : Type 0} {steps : S → Option I → S → Type 0} {v
     (l : List A) → Checked steps g s u f r → YieldsList {B = ℕ × A} steps v s (enumerate_from 0 l)
     → ((x : I) (b : Bool) (f' : F) → Called g f (x, tt) b f' → (f' ≡ f) × (b ≡ p (v x).0 (v x).1)) → r ≡ each p l
 all_placed u p l ran items says = all_each u (λ y. p y.0 y.1) (enumerate_from 0 l) ran items says ∙ counted p 0 0 l
+
+each_range : (q : ℕ → Bool) (n : ℕ) → each (λ i k. q k) (range_with_len 0 n) ≡ all_below n q
+each_range q n =
+    let l = range_with_len 0 n in
+    let long = length-range_with_len 0 n in
+    let at : (k : ℕ) → k < n → get_or l k 0 ≡ k = λ k i. get_or-range_with_len 0 n k 0 i ∙ zero-add k in
+    bool_eq
+    (λ h. all_of n q (λ k i. rw (at k i) at (each_at (λ j y. q y) l 0 h k (rw long i))))
+    (λ h. each_of (λ j y. q y) l 0 (λ k i. let b : k < n = omega arith in rw (at k b) (all_at n q h k b)))
+
+-- the same of the numbers below n
+pub all_below_n : {S I F : Type 0} {steps : S → Option I → S → Type 0} {v : I → ℕ} {g : Mut F (I × Unit {0}) Bool} {s : S} (u : S) {f : F} {r : Bool}
+    (q : ℕ → Bool) (n : ℕ) → Checked steps g s u f r → YieldsList steps v s (range_with_len 0 n)
+    → ((x : I) (b : Bool) (f' : F) → Called g f (x, tt) b f' → (f' ≡ f) × (b ≡ q (v x))) → r ≡ all_below n q
+all_below_n u q n ran items says = all_each u q (range_with_len 0 n) ran items says ∙ each_range q n
