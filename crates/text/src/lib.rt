@@ -14,18 +14,18 @@ use std::fmt;
 use tables::{Call, State};
 
 // The answer to one line, written over eleven bytes, and the state after it.
-fn answer(s: State, frame: Option<Call>, line: &mut [u8]) -> State
+fn answer(s: &mut State, frame: Option<Call>, line: &mut [u8])
     requires { length line.old ≡ 11 }
-    ensures value { result ≡ state (after (tables s) frame) }
-    ensures line_after { line.new ≡ printed (tables s) frame }
+    ensures state_after { s.new ≡ state (after (tables s.old) frame) }
+    ensures line_after { line.new ≡ printed (tables s.old) frame }
 {
     let Some(call) = frame else {
         line.copy_from_slice(&frames::no_frame_line());
-        return s;
+        return;
     };
-    let reply = calls::step(s, call);
+    let reply = calls::step(*s, call);
     line.copy_from_slice(&frames::answer_line(reply.outcome));
-    reply.state
+    *s = reply.state;
 }
 
 // Answers the input's lines from the closed state, where out has room for them, and says how many bytes of answers stand at the front
@@ -37,7 +37,7 @@ fn run_lines(input: &[u8], out: &mut [u8]) -> usize
     let mut s = changes::all_free(0);
     let mut n = 0;
     for frame in Reader::new(input) {
-        s = answer(s, frame, &mut out[n..n + 11]);
+        answer(&mut s, frame, &mut out[n..n + 11]);
         n += 11;
     }
     n

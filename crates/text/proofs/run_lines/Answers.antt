@@ -21,10 +21,10 @@ pub loop-frame-preserved : goal.loop-frame-preserved
 loop-frame-preserved c =
     let i = c.loop-frame.invariant in
     let g = got (goal.at.loop-frame-preserved c).In-Some in
-    let e = c.answer-s.ensures in
+    let e = c.answer.ensures in
     record {
       reads = ap (λ r. r.text.now) c.in-Some.ensures.steps.1 ∙ i.reads;
-      running = run_turn i.running c.requires g _ _ e.value (written_over _ _ _ _ e.line_after);
+      running = run_turn i.running c.requires g _ _ e.state_after (written_over _ _ _ _ e.line_after);
     }
 
 pub returns : goal.returns
