@@ -138,7 +138,7 @@ pub fn line_end(text: &[u8], at: usize) -> usize
     at + newline(rest).unwrap_or(rest.len())
 }
 
-// The code of an answer. Refusals stand in the order of their numbers, which begin at 1.
+// The code of an answer.
 pub fn code_of(answer: Outcome) -> u8
     ensures { result ≡ code_of answer }
 {
@@ -147,7 +147,7 @@ pub fn code_of(answer: Outcome) -> u8
         Outcome::Sent(_) => 0x40,
         Outcome::Waiting => 0x41,
         Outcome::Unbound => 0x42,
-        Outcome::Refused(why) => why as u8 + 1,
+        Outcome::Refused(why) => why as u8,
     }
 }
 
