@@ -8,7 +8,6 @@ use Rattle.std.proofs.Math.Arith.{digits_lt, digits_div, digits_mod}
 use borrow.Author.Tests.{ltb-true}
 use Rattle.numbers.specs.Below.{walk_meets}
 use Rattle.numbers.specs.Tests.{or_else, and_l, and_r}
-use Rattle.tables.specs.declared.Holding.TheVariants.{Unused}
 use Rattle.tables.specs.Machine.{Machine, Tables}
 use Rattle.tables.specs.Parts.{Place, place, is_at}
 use Rattle.tables.specs.Look.{holding_at, entry}
@@ -44,7 +43,7 @@ module _ (𝓜 : Machine) (s : Tables) where
   abbrev there : ℕ → ℕ → Bool
   there o e = ltb o 𝓜.workers && ltb e 𝓜.entries
 
-  entry_out : (o e : ℕ) → there o e ≡ false → entry 𝓜 s o e ≡ Unused
+  entry_out : (o e : ℕ) → there o e ≡ false → entry 𝓜 s o e ≡ None
   unfolding entry
   entry_out o e h = rw h
 

@@ -10,7 +10,7 @@ ghost use Rattle.states.specs.Sound.{reached};
 ghost use Rattle.chains.specs.Hops.{Followed, step_by};
 
 use std::array;
-use tables::{ALL_ENTRIES, ENTRIES, ENTRY_ROW, EntryName, Holding, State, WORKERS};
+use tables::{ALL_ENTRIES, ENTRIES, ENTRY_ROW, EntryName, Holding, Live, State, WORKERS};
 
 // Where the step from each entry leads, entry e of worker w at w * ENTRY_ROW + e.
 pub type Hops = [Option<EntryName>; ALL_ENTRIES];
@@ -21,8 +21,8 @@ fn hop(s: &State, w: u8, x: Holding) -> Option<EntryName>
     ensures { result ≡ through eight (tables s.now) w x }
 {
     match x {
-        Holding::Unused => None,
-        Holding::Live { cell, .. } => parts::named_by(lookups::see(&s.cells, w, cell).ending),
+        None => None,
+        Some(Live { cell, .. }) => parts::named_by(lookups::see(&s.cells, w, cell).ending),
     }
 }
 

@@ -9,14 +9,14 @@ ghost use Rattle.tables.specs.Parts.{entry_weight};
 ghost use Rattle.tables.specs.Look.{changed};
 ghost use Rattle.rules.specs.Answers.{made, reply};
 ghost use Rattle.rules.specs.Refusals.{entry_to_use, used};
-ghost use Rattle.rules.specs.Calls.{all_free, valued, bound_to_ex, bound_to, gains, keeps, sends, sends_whole, releases, costs, B};
-ghost use Rattle.rules.specs.Calls.{by_location, by_reference, export_end, transferred, dropped, read_ex, read_at, ask_ex, ask_at};
+ghost use Rattle.rules.specs.Calls.{all_free, valued, bound_to, gains, keeps, sends, sends_whole, releases, costs, B};
+ghost use Rattle.rules.specs.Calls.{by_location, by_reference, export_end, transferred, dropped, read_at, ask_at};
 ghost use Rattle.changes.specs.BelowCeiling.{added};
 
 use tables::{
     ALL_CELLS, ALL_ENTRIES, ALL_SLOTS, CEILING, Cell, Change, ENTRIES, Effect, Entry, EntryTable,
-    FIRST_WEIGHT, Holding, Kind, LAST_CALLER, Message, Outcome, Reply, Slot, SlotTable, State,
-    Status, Used,
+    FIRST_WEIGHT, Holding, Kind, LAST_CALLER, Live, Message, Outcome, Reply, Slot, SlotTable,
+    State, Status, Used,
 };
 
 // P workers, everything free.
@@ -24,18 +24,13 @@ use tables::{
 pub fn all_free(p: u8) -> State
     ensures { result ≡ state (all_free eight p) }
 {
-    let cells = [Cell { kind: Kind::Free }; ALL_CELLS];
-    let entries = [Entry {
-        holding: Holding::Unused,
-    }; ALL_ENTRIES];
-    let slots = [Slot {
-        message: Message::Empty,
-    }; ALL_SLOTS];
     State {
-        p: p,
-        cells: cells,
-        entries: entries,
-        slots: slots,
+        p,
+        cells: [Cell { kind: Kind::Free }; ALL_CELLS],
+        entries: [Entry { holding: None }; ALL_ENTRIES],
+        slots: [Slot {
+            message: Message::Empty,
+        }; ALL_SLOTS],
     }
 }
 
@@ -44,10 +39,7 @@ pub fn all_free(p: u8) -> State
 pub fn add_weights(a: u32, b: u32) -> u32
     ensures { result ≡ added a b }
 {
-    if CEILING < a {
-        return a;
-    }
-    if CEILING < b {
+    if CEILING < a || CEILING < b {
         return a;
     }
     a + b
@@ -60,7 +52,7 @@ pub fn unchanged(outcome: Outcome) -> Effect
     ensures { result ≡ record { outcome = outcome; change = Nothing } }
 {
     Effect {
-        outcome: outcome,
+        outcome,
         change: Change::Nothing,
     }
 }
@@ -69,14 +61,9 @@ pub fn unchanged(outcome: Outcome) -> Effect
 pub fn with_cell(outcome: Outcome, w: u8, c: u8, k: Kind) -> Effect
     ensures { result ≡ record { outcome = outcome; change = OfCell w c k } }
 {
-    let change = Change::OfCell {
-        w: w,
-        c: c,
-        kind: k,
-    };
     Effect {
-        outcome: outcome,
-        change: change,
+        outcome,
+        change: Change::OfCell { w, c, kind: k },
     }
 }
 
@@ -91,16 +78,15 @@ pub fn with_cell_and_message(
 ) -> Effect
     ensures { result ≡ record { outcome = outcome; change = OfCellAndSlot w c k slot m } }
 {
-    let change = Change::OfCellAndSlot {
-        w: w,
-        c: c,
-        kind: k,
-        slot: slot,
-        message: m,
-    };
     Effect {
-        outcome: outcome,
-        change: change,
+        outcome,
+        change: Change::OfCellAndSlot {
+            w,
+            c,
+            kind: k,
+            slot,
+            message: m,
+        },
     }
 }
 
@@ -115,16 +101,15 @@ pub fn with_entry_and_message(
 ) -> Effect
     ensures { result ≡ record { outcome = outcome; change = OfEntryAndSlot w e x slot m } }
 {
-    let change = Change::OfEntryAndSlot {
-        w: w,
-        e: e,
-        holding: x,
-        slot: slot,
-        message: m,
-    };
     Effect {
-        outcome: outcome,
-        change: change,
+        outcome,
+        change: Change::OfEntryAndSlot {
+            w,
+            e,
+            holding: x,
+            slot,
+            message: m,
+        },
     }
 }
 
@@ -157,12 +142,9 @@ fn changed(s: State, d: Change) -> State
 pub fn replied(s: State, d: Effect) -> Reply
     ensures { result ≡ reply (made eight (tables s) d) }
 {
-    let outcome = d.outcome;
-    let change = d.change;
-    let next = changed(s, change);
     Reply {
-        outcome: outcome,
-        state: next,
+        outcome: d.outcome,
+        state: changed(s, d.change),
     }
 }
 
@@ -172,13 +154,8 @@ pub fn replied(s: State, d: Effect) -> Reply
 pub fn variable(caller: u32) -> Kind
     ensures { result ≡ Var (min caller 255) }
 {
-    if LAST_CALLER < caller {
-        return Kind::Var {
-            caller: LAST_CALLER as u8,
-        };
-    }
     Kind::Var {
-        caller: caller as u8,
+        caller: caller.min(LAST_CALLER) as u8,
     }
 }
 
@@ -187,31 +164,21 @@ pub fn valued(n: u32, k: Kind) -> Kind
     ensures { result ≡ valued n k }
 {
     match k {
-        Kind::Free => k,
         Kind::Var { caller } => Kind::Val { n, caller },
-        Kind::Val { .. } => k,
-        Kind::Ref(_) => k,
-        Kind::Ex { .. } => k,
+        _ => k,
     }
 }
 
-// What the VAR k becomes where it is bound to the end y, an EX of this status: where it is known, a VAL that keeps its caller, and else a REF.
-fn bound_to_ex(y: u8, k: Kind, st: Status) -> Kind
-    ensures { result ≡ bound_to_ex y k st }
-{
-    match st {
-        Status::Idle => Kind::Ref(y),
-        Status::Reading => Kind::Ref(y),
-        Status::Known(v) => valued(v, k),
-    }
-}
-
-// And where it is bound to the end y, which holds ex; a REF where that is no EX: that is refused, and the answer is not used.
+// What the VAR k becomes where it is bound to the end y, which holds ex: where ex is a known EX, a VAL that keeps its caller, and else a REF. An
+// end that is no EX is refused, and the answer is not used.
 pub fn bound_to(y: u8, k: Kind, ex: Kind) -> Kind
     ensures { result ≡ bound_to y k ex }
 {
     match ex {
-        Kind::Ex { status, .. } => bound_to_ex(y, k, status),
+        Kind::Ex {
+            status: Status::Known(v),
+            ..
+        } => valued(v, k),
         _ => Kind::Ref(y),
     }
 }
@@ -220,8 +187,8 @@ pub fn bound_to(y: u8, k: Kind, ex: Kind) -> Kind
 
 // The number of the entry of the cell c, or of the lowest free one.
 #[tactic(auto, unfolding(rules::specs::Refusals::entry_to_use, tables::specs::Look::exported))]
-fn entry_to_use(entries: EntryTable, w: u8, c: u8) -> u8
-    ensures { (t : Tables) → t.entries ≡ entries → result ≡ entry_to_use eight t w c }
+fn entry_to_use(entries: &EntryTable, w: u8, c: u8) -> u8
+    ensures { (t : Tables) → t.entries ≡ entries.now → result ≡ entry_to_use eight t w c }
 {
     let own = searches::entry_of(entries, w, c);
     if own < ENTRIES {
@@ -231,15 +198,12 @@ fn entry_to_use(entries: EntryTable, w: u8, c: u8) -> u8
 }
 
 // That entry.
-pub fn use_entry(entries: EntryTable, w: u8, c: u8) -> Used
-    ensures { (t : Tables) → t.entries ≡ entries → result ≡ used eight t w c }
+pub fn use_entry(entries: &EntryTable, w: u8, c: u8) -> Used
+    ensures { (t : Tables) → t.entries ≡ entries.now → result ≡ used eight t w c }
 {
-    let e = entry_to_use(entries, w, c);
-    let x = lookups::entry_at(entries, w, e);
-    Used {
-        number: e,
-        holding: x,
-    }
+    let number = entry_to_use(entries, w, c);
+    let holding = lookups::entry_at(entries, w, number);
+    Used { number, holding }
 }
 
 // The entry that a cell c exported by location uses: made with this taint, or with 1,024 gained.
@@ -248,20 +212,15 @@ fn gains(c: u8, taint: bool, x: Holding) -> Holding
     ensures { entry_weight x ≤ 1048576 → result ≡ gains 1024 c taint x }
 {
     match x {
-        Holding::Unused => Holding::Live {
+        None => Some(Live {
             cell: c,
             weight: FIRST_WEIGHT,
             tainted: taint,
-        },
-        Holding::Live {
-            cell,
-            weight,
-            tainted,
-        } => Holding::Live {
-            cell: cell,
-            weight: add_weights(weight, FIRST_WEIGHT),
-            tainted: tainted,
-        },
+        }),
+        Some(live) => Some(Live {
+            weight: add_weights(live.weight, FIRST_WEIGHT),
+            ..live
+        }),
     }
 }
 
@@ -270,10 +229,9 @@ pub fn by_location(w: u8, x: u8, to: u8, taint: bool, u: Used, slot: u8) -> Effe
     ensures { entry_weight u.holding ≤ 1048576 → result ≡ by_location eight w x to taint u slot }
 {
     let e = u.number;
-    let holding = u.holding;
-    let gained = gains(x, taint, holding);
+    let gained = gains(x, taint, u.holding);
     let m = Message::Reference {
-        to: to,
+        to,
         owner: w,
         entry: e,
         weight: FIRST_WEIGHT,
@@ -282,25 +240,13 @@ pub fn by_location(w: u8, x: u8, to: u8, taint: bool, u: Used, slot: u8) -> Effe
 }
 
 // What an EX keeps and what it sends: half its weight, rounded down, is sent.
-fn keeps(k: Kind) -> Kind
+fn keeps(mut k: Kind) -> Kind
     ensures { result ≡ keeps eight k }
 {
-    match k {
-        Kind::Ex {
-            owner,
-            entry,
-            weight,
-            status,
-            asking,
-        } => Kind::Ex {
-            owner: owner,
-            entry: entry,
-            weight: weight - weight / 2,
-            status: status,
-            asking: asking,
-        },
-        _ => k,
+    if let Kind::Ex { weight, .. } = &mut k {
+        *weight -= *weight / 2;
     }
+    k
 }
 
 fn sends(to: u8, k: Kind) -> Message
@@ -313,9 +259,9 @@ fn sends(to: u8, k: Kind) -> Message
             weight,
             ..
         } => Message::Reference {
-            to: to,
-            owner: owner,
-            entry: entry,
+            to,
+            owner,
+            entry,
             weight: weight / 2,
         },
         _ => Message::Empty,
@@ -352,10 +298,10 @@ fn sends_whole(to: u8, k: Kind) -> Message
             weight,
             ..
         } => Message::Reference {
-            to: to,
-            owner: owner,
-            entry: entry,
-            weight: weight,
+            to,
+            owner,
+            entry,
+            weight,
         },
         _ => Message::Empty,
     }
@@ -382,9 +328,9 @@ fn releases(k: Kind) -> Message
             weight,
             ..
         } => Message::Release {
-            owner: owner,
-            entry: entry,
-            weight: weight,
+            owner,
+            entry,
+            weight,
         },
         _ => Message::Empty,
     }
@@ -404,94 +350,55 @@ pub fn dropped(w: u8, c: u8, k: Kind, slot: u8) -> Effect
 
 // ---- read and ask
 
-// A read that comes to an EX, by its status.
-fn read_ex(w: u8, x: u8, slot: u8, o: u8, e: u8, n: u32, st: Status, a: bool) -> Effect
-    ensures { result ≡ read_ex w x slot o e n st a }
-{
-    match st {
-        Status::Idle => with_cell_and_message(
-            Outcome::Sent(slot),
-            w,
-            x,
-            Kind::Ex {
-                owner: o,
-                entry: e,
-                weight: n,
-                status: Status::Reading,
-                asking: a,
-            },
-            slot,
-            Message::Read {
-                reader: w,
-                cell: x,
-                owner: o,
-                entry: e,
-            },
-        ),
-        Status::Reading => unchanged(Outcome::Waiting),
-        Status::Known(v) => unchanged(Outcome::Done(v)),
-    }
-}
-
 // A read that comes to the end x, which holds k.
-pub fn read_at(w: u8, x: u8, k: Kind, slot: u8) -> Effect
+pub fn read_at(w: u8, x: u8, mut k: Kind, slot: u8) -> Effect
     ensures { result ≡ read_at w x k slot }
 {
-    match k {
-        Kind::Free => unchanged(Outcome::Unbound),
-        Kind::Var { .. } => unchanged(Outcome::Unbound),
-        Kind::Val { n, .. } => unchanged(Outcome::Done(n)),
-        Kind::Ref(_) => unchanged(Outcome::Unbound),
+    match &mut k {
+        Kind::Val { n, .. } => unchanged(Outcome::Done(*n)),
         Kind::Ex {
             owner,
             entry,
-            weight,
             status,
-            asking,
-        } => read_ex(w, x, slot, owner, entry, weight, status, asking),
+            ..
+        } => match *status {
+            Status::Idle => {
+                let m = Message::Read {
+                    reader: w,
+                    cell: x,
+                    owner: *owner,
+                    entry: *entry,
+                };
+                *status = Status::Reading;
+                with_cell_and_message(Outcome::Sent(slot), w, x, k, slot, m)
+            }
+            Status::Reading => unchanged(Outcome::Waiting),
+            Status::Known(v) => unchanged(Outcome::Done(v)),
+        },
+        _ => unchanged(Outcome::Unbound),
     }
 }
 
-// An ask that comes to an EX: asking already, or not.
-fn ask_ex(w: u8, x: u8, slot: u8, o: u8, e: u8, n: u32, st: Status, a: bool) -> Effect
-    ensures { result ≡ ask_ex w x slot o e n st a }
-{
-    if a {
-        return unchanged(Outcome::Waiting);
-    }
-    with_cell_and_message(
-        Outcome::Sent(slot),
-        w,
-        x,
-        Kind::Ex {
-            owner: o,
-            entry: e,
-            weight: n,
-            status: st,
-            asking: true,
-        },
-        slot,
-        Message::Ask {
-            asker: w,
-            cell: x,
-            owner: o,
-            entry: e,
-        },
-    )
-}
-
-// An ask that comes to the end x, which holds k.
-pub fn ask_at(w: u8, x: u8, k: Kind, slot: u8) -> Effect
+// An ask that comes to the end x, which holds k: asking already, or not.
+pub fn ask_at(w: u8, x: u8, mut k: Kind, slot: u8) -> Effect
     ensures { result ≡ ask_at w x k slot }
 {
-    match k {
+    match &mut k {
         Kind::Ex {
             owner,
             entry,
-            weight,
-            status,
             asking,
-        } => ask_ex(w, x, slot, owner, entry, weight, status, asking),
+            ..
+        } if !*asking => {
+            let m = Message::Ask {
+                asker: w,
+                cell: x,
+                owner: *owner,
+                entry: *entry,
+            };
+            *asking = true;
+            with_cell_and_message(Outcome::Sent(slot), w, x, k, slot, m)
+        }
         _ => unchanged(Outcome::Waiting),
     }
 }
@@ -504,25 +411,16 @@ fn costs(live: u8, m: Message) -> u32
 {
     match m {
         Message::Empty => 0,
-        Message::Reference { .. } => 1,
-        Message::Release { .. } => 1,
         Message::Read { .. } => live as u32 + 1,
-        Message::Answer { .. } => 1,
         Message::Ask { .. } => 2,
-        Message::Supply { .. } => 1,
+        _ => 1,
     }
 }
 
 // B.
-pub fn all_costs(entries: EntryTable, slots: SlotTable) -> u32
-    ensures { (t : Tables) → t.entries ≡ entries → t.slots ≡ slots → result ≡ B eight t }
+pub fn all_costs(entries: &EntryTable, slots: &SlotTable) -> u32
+    ensures { (t : Tables) → t.entries ≡ entries.now → t.slots ≡ slots.now → result ≡ B eight t }
 {
     let live = searches::live_entries(entries);
-    let mut n: u32 = 0;
-    for k in 0..ALL_SLOTS {
-        let x = slots[k];
-        let m = x.message;
-        n += costs(live, m);
-    }
-    n
+    slots.iter().map(|x| costs(live, x.message)).sum()
 }

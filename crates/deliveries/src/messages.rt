@@ -2,7 +2,7 @@
 ghost use Rattle.std.specs.Prelude.{◌≤◌, ◌-◌, min, ◌≡◌, true};
 ghost use Rattle.tables.specs.declared.Message.TheVariants.{Reference, Read};
 ghost use Rattle.tables.specs.declared.Change.TheVariants.{OfSlot};
-ghost use Rattle.tables.specs.Machine.{Tables, eight};
+ghost use Rattle.tables.specs.Machine.{eight, tables};
 ghost use Rattle.tables.specs.Parts.{ex_weight, entry_weight};
 ghost use Rattle.rules.specs.Answers.{done};
 ghost use Rattle.states.specs.Sound.{sound};
@@ -13,8 +13,7 @@ ghost use Rattle.rules.specs.Refusals.{read_end};
 
 use changes::{add_weights, with_cell_and_message, with_entry_and_message};
 use tables::{
-    CEILING, CELLS, CellTable, Change, Effect, EntryTable, FIRST_WEIGHT, Holding, Kind, Message,
-    Outcome, Status,
+    CEILING, CELLS, Change, Effect, FIRST_WEIGHT, Holding, Kind, Message, Outcome, State, Status,
 };
 
 // ---- what becomes of an entry and of a cell
@@ -23,161 +22,90 @@ use tables::{
 fn taken_off(w: u32, x: Holding) -> Holding
     ensures { result ≡ taken_off w x }
 {
-    match x {
-        Holding::Unused => Holding::Unused,
-        Holding::Live {
-            cell,
-            weight,
-            tainted,
-        } => {
-            if weight <= w {
-                Holding::Unused
-            } else {
-                Holding::Live {
-                    cell: cell,
-                    weight: weight - w,
-                    tainted: tainted,
-                }
-            }
-        }
+    let mut live = x?;
+    if live.weight <= w {
+        return None;
     }
+    live.weight -= w;
+    Some(live)
 }
 
 // The weight joins the EX, or the cell becomes such an EX, idle.
 #[tactic(auto, using(changes::specs::BelowCeiling::added_is))]
-fn joined(o: u8, e: u8, w: u32, k: Kind) -> Kind
+fn joined(o: u8, e: u8, w: u32, mut k: Kind) -> Kind
     ensures { w ≤ 1048576 → ex_weight k ≤ 1048576 → result ≡ joined o e w k }
 {
-    let fresh = Kind::Ex {
-        owner: o,
-        entry: e,
-        weight: w,
-        status: Status::Idle,
-        asking: false,
-    };
-    match k {
-        Kind::Ex {
-            owner,
-            entry,
-            weight,
-            status,
-            asking,
-        } => Kind::Ex {
-            owner: owner,
-            entry: entry,
-            weight: add_weights(weight, w),
-            status: status,
-            asking: asking,
+    match &mut k {
+        Kind::Ex { weight, .. } => {
+            *weight = add_weights(*weight, w);
+            k
+        }
+        _ => Kind::Ex {
+            owner: o,
+            entry: e,
+            weight: w,
+            status: Status::Idle,
+            asking: false,
         },
-        _ => fresh,
     }
 }
 
 // The EX is known with v.
-fn known(v: u32, k: Kind) -> Kind
+fn known(v: u32, mut k: Kind) -> Kind
     ensures { result ≡ known v k }
 {
-    match k {
-        Kind::Ex {
-            owner,
-            entry,
-            weight,
-            asking,
-            ..
-        } => Kind::Ex {
-            owner: owner,
-            entry: entry,
-            weight: weight,
-            status: Status::Known(v),
-            asking: asking,
-        },
-        _ => k,
+    if let Kind::Ex { status, .. } = &mut k {
+        *status = Status::Known(v);
     }
+    k
 }
 
 // Weight added, no longer asking.
 #[tactic(auto, using(changes::specs::BelowCeiling::added_is))]
-fn supplied(w: u32, k: Kind) -> Kind
+fn supplied(w: u32, mut k: Kind) -> Kind
     ensures { w ≤ 1048576 → ex_weight k ≤ 1048576 → result ≡ supplied w k }
 {
-    match k {
-        Kind::Ex {
-            owner,
-            entry,
-            weight,
-            status,
-            ..
-        } => Kind::Ex {
-            owner: owner,
-            entry: entry,
-            weight: add_weights(weight, w),
-            status: status,
-            asking: false,
-        },
-        _ => k,
+    if let Kind::Ex { weight, asking, .. } = &mut k {
+        *weight = add_weights(*weight, w);
+        *asking = false;
     }
+    k
 }
 
 // What an Ask is given by an entry of this weight: the smaller of 1,024 and what is left below the ceiling.
 fn supply_from(weight: u32) -> u32
     ensures { result ≡ min 1024 (1048576 - weight) }
 {
-    if CEILING <= weight {
-        return 0;
-    }
-    let left = CEILING - weight;
-    if FIRST_WEIGHT <= left {
-        FIRST_WEIGHT
-    } else {
-        left
-    }
+    FIRST_WEIGHT.min(CEILING.saturating_sub(weight))
 }
 
 // The entry that an Ask finds gains what it gives.
 fn grown(x: Holding) -> Holding
     ensures { result ≡ grown (min 1024 (1048576 - entry_weight x)) x }
 {
-    match x {
-        Holding::Unused => Holding::Unused,
-        Holding::Live {
-            cell,
-            weight,
-            tainted,
-        } => Holding::Live {
-            cell: cell,
-            weight: weight + supply_from(weight),
-            tainted: tainted,
-        },
-    }
+    let mut live = x?;
+    live.weight += supply_from(live.weight);
+    Some(live)
 }
 
 // The end of the cell that a live entry of worker o names.
-fn entry_end(cells: CellTable, o: u8, x: Holding) -> Kind
-    ensures { (t : Tables) → t.cells ≡ cells → result ≡ entry_end eight t o x }
+fn entry_end(s: &State, o: u8, x: Holding) -> Kind
+    ensures { result ≡ entry_end eight (tables s.now) o x }
 {
-    match x {
-        Holding::Unused => Kind::Free,
-        Holding::Live { cell, .. } => {
-            let look = lookups::see(cells, o, cell);
-            look.ending
-        }
-    }
+    x.map_or(Kind::Free, |live| {
+        lookups::see(&s.cells, o, live.cell).ending
+    })
 }
 
 // The end that a Read comes to; nothing for any other message.
-pub fn read_end(cells: CellTable, entries: EntryTable, m: Message) -> Kind
-    ensures { (t : Tables) → t.cells ≡ cells → t.entries ≡ entries → result ≡ read_end eight t m }
+pub fn read_end(s: &State, m: Message) -> Kind
+    ensures { result ≡ read_end eight (tables s.now) m }
 {
     match m {
-        Message::Empty => Kind::Free,
-        Message::Reference { .. } => Kind::Free,
-        Message::Release { .. } => Kind::Free,
         Message::Read { owner, entry, .. } => {
-            entry_end(cells, owner, lookups::entry_at(entries, owner, entry))
+            entry_end(s, owner, lookups::entry_at(&s.entries, owner, entry))
         }
-        Message::Answer { .. } => Kind::Free,
-        Message::Ask { .. } => Kind::Free,
-        Message::Supply { .. } => Kind::Free,
+        _ => Kind::Free,
     }
 }
 
@@ -192,13 +120,12 @@ fn read_on_ex(r: u8, c: u8, o: u8, e: u8, st: Status) -> Message
         entry: e,
     };
     match st {
-        Status::Idle => on,
-        Status::Reading => on,
         Status::Known(v) => Message::Answer {
             reader: r,
             cell: c,
             n: v,
         },
+        _ => on,
     }
 }
 
@@ -207,20 +134,18 @@ fn read_on(r: u8, c: u8, m: Message, k: Kind) -> Message
     ensures { result ≡ read_on r c m k }
 {
     match k {
-        Kind::Free => m,
-        Kind::Var { .. } => m,
         Kind::Val { n, .. } => Message::Answer {
             reader: r,
             cell: c,
-            n: n,
+            n,
         },
-        Kind::Ref(_) => m,
         Kind::Ex {
             owner,
             entry,
             status,
             ..
         } => read_on_ex(r, c, owner, entry, status),
+        _ => m,
     }
 }
 
@@ -228,22 +153,22 @@ fn read_on(r: u8, c: u8, m: Message, k: Kind) -> Message
 
 // The cell of worker w where a Reference to the entry e of worker o arrives.
 #[tactic(auto, unfolding(rules::specs::Deliver::arrival_cell))]
-fn arrival_cell(cells: CellTable, w: u8, o: u8, e: u8) -> u8
-    ensures { (t : Tables) → t.cells ≡ cells → result ≡ arrival_cell eight t w o e }
+fn arrival_cell(s: &State, w: u8, o: u8, e: u8) -> u8
+    ensures { result ≡ arrival_cell eight (tables s.now) w o e }
 {
-    let x = searches::ex_naming(cells, w, o, e);
+    let x = searches::ex_naming(&s.cells, w, o, e);
     if x < CELLS {
         return x;
     }
-    searches::lowest_free_cell(cells, w)
+    searches::lowest_free_cell(&s.cells, w)
 }
 
 // A Reference at the owner.
 #[tactic(auto, unfolding(rules::specs::Deliver::deliver_home))]
-fn deliver_home(entries: EntryTable, k: u8, o: u8, e: u8, w: u32) -> Effect
-    ensures { (t : Tables) → t.entries ≡ entries → result ≡ deliver_home eight t k o e w }
+fn deliver_home(s: &State, k: u8, o: u8, e: u8, w: u32) -> Effect
+    ensures { result ≡ deliver_home eight (tables s.now) k o e w }
 {
-    let x = lookups::entry_at(entries, o, e);
+    let x = lookups::entry_at(&s.entries, o, e);
     let value = Outcome::Done(parts::cell_of(x) as u32);
     let left = taken_off(w, x);
     with_entry_and_message(value, o, e, left, k, Message::Empty)
@@ -251,37 +176,29 @@ fn deliver_home(entries: EntryTable, k: u8, o: u8, e: u8, w: u32) -> Effect
 
 // A Reference elsewhere.
 #[tactic(auto, using(changes::specs::BelowCeiling::cell_weight), unfolding(rules::specs::Deliver::deliver_away))]
-fn deliver_away(cells: CellTable, k: u8, to: u8, o: u8, e: u8, w: u32) -> Effect
-    ensures { (t : Tables) → t.cells ≡ cells → sound eight t ≡ true → w ≤ 1048576 → result ≡ deliver_away eight t k to o e w }
+fn deliver_away(s: &State, k: u8, to: u8, o: u8, e: u8, w: u32) -> Effect
+    ensures { sound eight (tables s.now) ≡ true → w ≤ 1048576 → result ≡ deliver_away eight (tables s.now) k to o e w }
 {
-    let c = arrival_cell(cells, to, o, e);
-    let ex = joined(o, e, w, lookups::cell_at(cells, to, c));
+    let c = arrival_cell(s, to, o, e);
+    let ex = joined(o, e, w, lookups::cell_at(&s.cells, to, c));
     with_cell_and_message(Outcome::Done(c as u32), to, c, ex, k, Message::Empty)
 }
 
 #[tactic(auto, unfolding(rules::specs::Deliver::deliver_message))]
-pub fn deliver_reference(
-    cells: CellTable,
-    entries: EntryTable,
-    k: u8,
-    to: u8,
-    o: u8,
-    e: u8,
-    w: u32,
-) -> Effect
-    ensures { (t : Tables) → t.cells ≡ cells → t.entries ≡ entries → sound eight t ≡ true → w ≤ 1048576 → result ≡ deliver_message eight t k (Reference to o e w) }
+pub fn deliver_reference(s: &State, k: u8, to: u8, o: u8, e: u8, w: u32) -> Effect
+    ensures { sound eight (tables s.now) ≡ true → w ≤ 1048576 → result ≡ deliver_message eight (tables s.now) k (Reference to o e w) }
 {
     if to == o {
-        return deliver_home(entries, k, o, e, w);
+        return deliver_home(s, k, o, e, w);
     }
-    deliver_away(cells, k, to, o, e, w)
+    deliver_away(s, k, to, o, e, w)
 }
 
 #[tactic(auto, unfolding(rules::specs::Deliver::deliver_release))]
-pub fn deliver_release(entries: EntryTable, k: u8, o: u8, e: u8, w: u32) -> Effect
-    ensures { (t : Tables) → t.entries ≡ entries → result ≡ deliver_release eight t k o e w }
+pub fn deliver_release(s: &State, k: u8, o: u8, e: u8, w: u32) -> Effect
+    ensures { result ≡ deliver_release eight (tables s.now) k o e w }
 {
-    let left = taken_off(w, lookups::entry_at(entries, o, e));
+    let left = taken_off(w, lookups::entry_at(&s.entries, o, e));
     with_entry_and_message(Outcome::Done(0), o, e, left, k, Message::Empty)
 }
 
@@ -295,37 +212,36 @@ pub fn deliver_read(k: u8, r: u8, c: u8, o: u8, e: u8, end: Kind) -> Effect
         owner: o,
         entry: e,
     };
-    let change = Change::OfSlot {
-        slot: k,
-        message: read_on(r, c, m, end),
-    };
     Effect {
         outcome: Outcome::Done(0),
-        change: change,
+        change: Change::OfSlot {
+            slot: k,
+            message: read_on(r, c, m, end),
+        },
     }
 }
 
 #[tactic(auto, unfolding(rules::specs::Deliver::deliver_answer))]
-pub fn deliver_answer(cells: CellTable, k: u8, r: u8, c: u8, v: u32) -> Effect
-    ensures { (t : Tables) → t.cells ≡ cells → result ≡ deliver_answer eight t k r c v }
+pub fn deliver_answer(s: &State, k: u8, r: u8, c: u8, v: u32) -> Effect
+    ensures { result ≡ deliver_answer eight (tables s.now) k r c v }
 {
-    let ex = known(v, lookups::cell_at(cells, r, c));
+    let ex = known(v, lookups::cell_at(&s.cells, r, c));
     with_cell_and_message(Outcome::Done(c as u32), r, c, ex, k, Message::Empty)
 }
 
 #[tactic(auto, using(changes::specs::BelowCeiling::cell_weight), unfolding(rules::specs::Deliver::deliver_supply))]
-pub fn deliver_supply(cells: CellTable, k: u8, a: u8, c: u8, w: u32) -> Effect
-    ensures { (t : Tables) → t.cells ≡ cells → sound eight t ≡ true → w ≤ 1048576 → result ≡ deliver_supply eight t k a c w }
+pub fn deliver_supply(s: &State, k: u8, a: u8, c: u8, w: u32) -> Effect
+    ensures { sound eight (tables s.now) ≡ true → w ≤ 1048576 → result ≡ deliver_supply eight (tables s.now) k a c w }
 {
-    let ex = supplied(w, lookups::cell_at(cells, a, c));
+    let ex = supplied(w, lookups::cell_at(&s.cells, a, c));
     with_cell_and_message(Outcome::Done(c as u32), a, c, ex, k, Message::Empty)
 }
 
 #[tactic(auto, unfolding(rules::specs::Deliver::deliver_ask))]
-pub fn deliver_ask(entries: EntryTable, k: u8, a: u8, c: u8, o: u8, e: u8) -> Effect
-    ensures { (t : Tables) → t.entries ≡ entries → result ≡ deliver_ask eight t k a c o e }
+pub fn deliver_ask(s: &State, k: u8, a: u8, c: u8, o: u8, e: u8) -> Effect
+    ensures { result ≡ deliver_ask eight (tables s.now) k a c o e }
 {
-    let x = lookups::entry_at(entries, o, e);
+    let x = lookups::entry_at(&s.entries, o, e);
     let m = Message::Supply {
         asker: a,
         cell: c,

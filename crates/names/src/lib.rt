@@ -5,7 +5,7 @@ ghost use Rattle.std.specs.Prelude.{◌≡◌};
 ghost use Rattle.tables.specs.Machine.{eight, tables};
 ghost use Rattle.states.specs.Sound.{cell_names, exes_naming, point2, entry_names_cell, entries_naming, var_val_or_safe, point3};
 
-use tables::{CELL_ROW, ENTRY_ROW, Holding, Kind, State};
+use tables::{CELL_ROW, ENTRY_ROW, Holding, Kind, Live, State};
 
 // ---- point 2
 
@@ -68,8 +68,8 @@ fn entry_names(s: &State, w: u8, x: Holding) -> bool
     ensures { result ≡ entry_names_cell eight (tables s.now) w 0 x }
 {
     match x {
-        Holding::Unused => true,
-        Holding::Live { cell, tainted, .. } => {
+        None => true,
+        Some(Live { cell, tainted, .. }) => {
             let seen = lookups::see(&s.cells, w, cell);
             !parts::is_free(seen.kind)
                 && entries_naming(s, w, cell) <= 1

@@ -2,7 +2,7 @@
 use Prim.Native.Nat.{ℕ, zero, suc, ◌+◌, ◌-◌, ◌*◌, ◌/◌, ◌%◌, ◌<◌, ◌≤◌}
 use Rattle.std.proofs.Common.{arith, ◌∙◌}
 use Rattle.std.proofs.Math.Nat.{sub-zero}
-use Rattle.std.specs.Prelude.{◌≡◌, Bool, false, ◌&&◌, List, ltb, get_or}
+use Rattle.std.specs.Prelude.{◌≡◌, Bool, false, ◌&&◌, List, ltb, get_or, None, Some}
 use Rattle.std.proofs.Math.Path.{refl, sym, ap, ap₂}
 use Rattle.std.proofs.Math.Bool.{true, cond}
 use Rattle.std.proofs.Math.Logic.{⊎_elim}
@@ -13,10 +13,8 @@ use Rattle.numbers.specs.ListLaws.{listed_at}
 use Rattle.numbers.specs.Tests.{or_else, and_l, and_r}
 use Rattle.tables.specs.declared.Kind.{Kind}
 use Rattle.tables.specs.declared.Kind.TheVariants.{Free, Var, Val, Ref, Ex}
-use Rattle.tables.specs.declared.Holding.{Holding}
-use Rattle.tables.specs.declared.Holding.TheVariants.{Unused, Live}
 use Rattle.tables.specs.Machine.{Machine, Tables}
-use Rattle.tables.specs.Parts.{caller_of}
+use Rattle.tables.specs.Parts.{Holding, caller_of}
 use Rattle.tables.specs.Look.{cell, entry, end, end_kind, live_entries}
 use Rattle.states.specs.Chains.{entry_end}
 use Rattle.rules.specs.Payers.{pays_from, payer}
@@ -80,8 +78,8 @@ module _ (𝓜 : Machine) where
 
   -- the way on by an entry of worker w, to the cell that it names
   abbrev pub led_to : ℕ → Holding → Way
-  led_to w Unused = Neither
-  led_to w (Live c n t) = cond (inside w c) (LeadsTo (w * 𝓜.cells + c)) Neither
+  led_to w None = Neither
+  led_to w (Some x) = cond (inside w x.cell) (LeadsTo (w * 𝓜.cells + x.cell)) Neither
 
 module _ (𝓜 : Machine) (s : Tables) where
   -- the end of the cell at the place i of the table
@@ -143,18 +141,22 @@ module _ (𝓜 : Machine) (s : Tables) where
   one m (Ex o e w st a) rec = by (entry 𝓜 s o e)
     where
       by : (x : Holding) → walked (step m) (led_to 𝓜 o x) ≡ pays_from 𝓜 s m (entry_end 𝓜 s o x)
-      by Unused = sym (pays_free m)
-      by (Live c u t) = ⊎_elim within outside (or_else (inside 𝓜 o c))
+      by None = sym (pays_free m)
+      by (Some x) = at x.cell
         where
-          within : inside 𝓜 o c ≡ true → walked (step m) (cond (inside 𝓜 o c) (LeadsTo (o * 𝓜.cells + c)) Neither) ≡ pays_from 𝓜 s m (end_kind 𝓜 s o c)
-          within h =
-              let ow : o < 𝓜.workers = ltb-true o 𝓜.workers (and_l (ltb o 𝓜.workers) (ltb c 𝓜.cells) h) in
-              let cl : c < 𝓜.cells = ltb-true c 𝓜.cells (and_r (ltb o 𝓜.workers) (ltb c 𝓜.cells) h) in
-              rw h
-              (rec (o * 𝓜.cells + c) (digits_lt ow cl) ∙ ap₂ (λ (a b : ℕ). pays_from 𝓜 s m (end_kind 𝓜 s a b)) (digits_div o cl) (digits_mod o cl))
+          at : (c : ℕ) → walked (step m) (cond (inside 𝓜 o c) (LeadsTo (o * 𝓜.cells + c)) Neither) ≡ pays_from 𝓜 s m (end_kind 𝓜 s o c)
+          at c = ⊎_elim within outside (or_else (inside 𝓜 o c))
+            where
+              within : inside 𝓜 o c ≡ true → walked (step m) (cond (inside 𝓜 o c) (LeadsTo (o * 𝓜.cells + c)) Neither) ≡ pays_from 𝓜 s m (end_kind 𝓜 s o c)
+              within h =
+                  let ow : o < 𝓜.workers = ltb-true o 𝓜.workers (and_l (ltb o 𝓜.workers) (ltb c 𝓜.cells) h) in
+                  let cl : c < 𝓜.cells = ltb-true c 𝓜.cells (and_r (ltb o 𝓜.workers) (ltb c 𝓜.cells) h) in
+                  rw h
+                  (rec (o * 𝓜.cells + c) (digits_lt ow cl)
+                  ∙ ap₂ (λ (a b : ℕ). pays_from 𝓜 s m (end_kind 𝓜 s a b)) (digits_div o cl) (digits_mod o cl))
 
-          outside : inside 𝓜 o c ≡ false → walked (step m) (cond (inside 𝓜 o c) (LeadsTo (o * 𝓜.cells + c)) Neither) ≡ pays_from 𝓜 s m (end_kind 𝓜 s o c)
-          outside h = rw h (sym (ap (pays_from 𝓜 s m) (end_outside o c h) ∙ pays_free m))
+              outside : inside 𝓜 o c ≡ false → walked (step m) (cond (inside 𝓜 o c) (LeadsTo (o * 𝓜.cells + c)) Neither) ≡ pays_from 𝓜 s m (end_kind 𝓜 s o c)
+              outside h = rw h (sym (ap (pays_from 𝓜 s m) (end_outside o c h) ∙ pays_free m))
 
   last : (k : Kind) → payer_of (way_on k) ≡ caller_of k
   last Free = refl
@@ -164,10 +166,10 @@ module _ (𝓜 : Machine) (s : Tables) where
   last (Ex o e w st a) = by (entry 𝓜 s o e)
     where
       by : (x : Holding) → payer_of (led_to 𝓜 o x) ≡ 256
-      by Unused = refl
-      by (Live c u t) = on (inside 𝓜 o c)
+      by None = refl
+      by (Some x) = on (inside 𝓜 o x.cell)
         where
-          on : (b : Bool) → payer_of (cond b (LeadsTo (o * 𝓜.cells + c)) Neither) ≡ 256
+          on : (b : Bool) → payer_of (cond b (LeadsTo (o * 𝓜.cells + x.cell)) Neither) ≡ 256
           on true = refl
           on false = refl
 

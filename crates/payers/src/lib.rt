@@ -7,7 +7,7 @@ ghost use Rattle.tables.specs.Machine.{eight, tables};
 ghost use Rattle.payers.specs.Ways.{payer_of, led_to, way_on, end_at, ways_of, pays_by, payers_of};
 
 use std::array;
-use tables::{ALL_CELLS, CELL_ROW, CELLS, Holding, Kind, State, WORKERS};
+use tables::{ALL_CELLS, CELL_ROW, CELLS, Holding, Kind, Live, State, WORKERS};
 
 // No caller: past the last.
 pub const NOBODY: u16 = 256;
@@ -38,7 +38,7 @@ fn led_to(w: u8, x: Holding) -> Way
     ensures { result ≡ led_to eight w x }
 {
     match x {
-        Holding::Live { cell, .. } if w < WORKERS && cell < CELLS => {
+        Some(Live { cell, .. }) if w < WORKERS && cell < CELLS => {
             Way::LeadsTo(w * CELLS + cell)
         }
         _ => Way::Neither,

@@ -1,40 +1,40 @@
 // The first lines of the table of refusal numbers, as a call tests them in their order on what it has looked up.
 ghost use Rattle.std.specs.Prelude.{◌≡◌, [], ◌∷◌};
 ghost use Rattle.rules.specs.Refusals.{not_sound, worker_lines, cell_lines, bind_lines};
-ghost use Rattle.quiet.specs.declared.verdict.Verdict.TheVariants.{Go};
-ghost use Rattle.quiet.specs.Verdicts.{along};
+ghost use Rattle.quiet.specs.Verdicts.{first_hit};
 
-use super::verdict::Verdict;
+use super::verdict::refuse_if;
 use lookups::Seen;
-use numbers::both;
 use tables::{Kind, Refusal};
 
 // 2, of any call but start, in a state that is sound or not.
-#[tactic(auto, unfolding(crate::specs::Verdicts::along))]
-pub fn state_refusal(sound: bool) -> Verdict
-    ensures { result ≡ along Go (not_sound sound ∷ []) }
+#[tactic(auto, unfolding(crate::specs::Verdicts::first_hit))]
+pub fn state_refusal(sound: bool) -> Result<(), Refusal>
+    ensures { result ≡ first_hit (not_sound sound ∷ []) }
 {
-    Verdict::Go.refuse_if(!sound, Refusal::NotSound)
+    refuse_if(!sound, Refusal::NotSound)
 }
 
 // 2 and 3, of a call on worker w of p.
-#[tactic(auto, unfolding(crate::specs::Verdicts::along))]
-pub fn worker_refusals(sound: bool, p: u8, w: u8) -> Verdict
-    ensures { result ≡ along Go (worker_lines sound p w) }
+#[tactic(auto, unfolding(crate::specs::Verdicts::first_hit))]
+pub fn worker_refusals(sound: bool, p: u8, w: u8) -> Result<(), Refusal>
+    ensures { result ≡ first_hit (worker_lines sound p w) }
 {
-    state_refusal(sound).refuse_if(p <= w, Refusal::NoWorker)
+    state_refusal(sound)?;
+    refuse_if(p <= w, Refusal::NoWorker)
 }
 
 // 2, 3 and 5, of a call on a cell of worker w that holds k.
-#[tactic(auto, unfolding(crate::specs::Verdicts::along))]
-pub fn cell_refusals(sound: bool, p: u8, w: u8, k: Kind) -> Verdict
-    ensures { result ≡ along Go (cell_lines sound p w k) }
+#[tactic(auto, unfolding(crate::specs::Verdicts::first_hit))]
+pub fn cell_refusals(sound: bool, p: u8, w: u8, k: Kind) -> Result<(), Refusal>
+    ensures { result ≡ first_hit (cell_lines sound p w k) }
 {
-    worker_refusals(sound, p, w).refuse_if(parts::is_free(k), Refusal::NoCell)
+    worker_refusals(sound, p, w)?;
+    refuse_if(parts::is_free(k), Refusal::NoCell)
 }
 
 // What bind tests of k, what c holds, and of x and its end; of c whether it has a live entry, and of an EX that is not known whether it is safe.
-#[tactic(auto, unfolding(crate::specs::Verdicts::along))]
+#[tactic(auto, unfolding(crate::specs::Verdicts::first_hit))]
 pub fn bind_refusals(
     sound: bool,
     p: u8,
@@ -43,17 +43,13 @@ pub fn bind_refusals(
     x: Seen,
     exported: bool,
     safe: bool,
-) -> Verdict
-    ensures { result ≡ along Go (bind_lines sound p w k x.kind x.ending exported safe) }
+) -> Result<(), Refusal>
+    ensures { result ≡ first_hit (bind_lines sound p w k x.kind x.ending exported safe) }
 {
-    let other = x.kind;
     let ex = x.ending;
-    cell_refusals(sound, p, w, k)
-        .refuse_if(parts::is_free(other), Refusal::NoCell)
-        .refuse_if(!parts::is_var(k), Refusal::WrongKind)
-        .refuse_if(!parts::is_ex(ex), Refusal::WrongKind)
-        .refuse_if(
-            both(!parts::is_known(ex), both(exported, !safe)),
-            Refusal::Unsafe,
-        )
+    cell_refusals(sound, p, w, k)?;
+    refuse_if(parts::is_free(x.kind), Refusal::NoCell)?;
+    refuse_if(!parts::is_var(k), Refusal::WrongKind)?;
+    refuse_if(!parts::is_ex(ex), Refusal::WrongKind)?;
+    refuse_if(!parts::is_known(ex) && exported && !safe, Refusal::Unsafe)
 }

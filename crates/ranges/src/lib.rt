@@ -7,7 +7,7 @@ ghost use Rattle.states.specs.Sound.{point1, each_cell, each_entry, each_message
 ghost use Rattle.states.specs.Sound.{cell_in_range, entry_in_range, message_in_range};
 
 use tables::{
-    CEILING, CELL_ROW, CELLS, ENTRIES, ENTRY_ROW, Holding, Kind, Message, State, WORKERS,
+    CEILING, CELL_ROW, CELLS, ENTRIES, ENTRY_ROW, Holding, Kind, Live, Message, State, WORKERS,
 };
 
 // A cell of worker w that holds k: it is free, or the worker is below P and the numbers in it are in range.
@@ -32,8 +32,8 @@ fn entry_in_range(s: &State, w: usize, x: Holding) -> bool
     ensures { result ≡ entry_in_range eight (tables s.now) w 0 x }
 {
     match x {
-        Holding::Unused => true,
-        Holding::Live { cell, weight, .. } => {
+        None => true,
+        Some(Live { cell, weight, .. }) => {
             w < s.p as usize && cell < CELLS && weight <= CEILING && 1 <= weight
         }
     }

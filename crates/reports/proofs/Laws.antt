@@ -10,8 +10,8 @@ use borrow.Author.Tests.{ltb-true, ltb-false, lt-ltb, le-ltb, eq-eqb, ne_eqb}
 use lib.Dec.{ltb, eqb}
 use lib.Arith.{digits_lt, digits_div, digits_mod}
 use lib.IntN.{ℤ, pos, nat_abs, ◌+ℤ◌, +ℤ_assoc, +ℤ_idl, +ℤ_idr}
-use lib.ListN.{length, get_or, set, drop, drop_of_length-le, length-set, length-replicate}
-use lib.Seq.{get_or-set_same, get_or-set_other}
+use lib.ListN.{length, get_or, set, take, drop, drop_of_length-le, length-set, length-replicate}
+use lib.Seq.{take-length, get_or-set_same, get_or-set_other}
 use mir.Syntax.{w32, w64}
 use mir.Val.{SFits, to_z, of_z}
 use Rattle.numbers.specs.Below.{bit}
@@ -31,63 +31,16 @@ use Rattle.reports.specs.declared.Charge.{Charge}
 use Rattle.reports.specs.declared.Books.{Books}
 use Rattle.reports.specs.Report.{amounts_of, count_of, payer_of, belongs_to, is_placed, taken, reported, report}
 use Rattle.reports.specs.Charging.{opened_of, gained, payer_seen, payer_in, charged_one, charged_all, finished_of, count, Within}
-use Rattle.reports.proofs.Sizes.{gains_near, gains_fit_bits, gains_bits}
+use Rattle.reports.proofs.Sizes.{gains_bits}
 
 -- ---- no total leaves its range
-near_set : (xs : List ℤ) (i j : ℕ) (z : ℤ) (m : ℕ) → nat_abs z ≤ m → nat_abs (get_or xs j (pos 0)) ≤ m → nat_abs (get_or (set xs i z) j (pos 0)) ≤ m
-near_set [] i j z m h k = k
-near_set (x ∷ xs) zero zero z m h k = h
-near_set (x ∷ xs) zero (suc j) z m h k = k
-near_set (x ∷ xs) (suc i) zero z m h k = k
-near_set (x ∷ xs) (suc i) (suc j) z m h k = near_set xs i j z m h k
-
 pub within_opened : (𝓜 : Machine) (s : Tables) (n : ℕ) → Within (opened_of 𝓜 s n) 0
 within_opened 𝓜 s n = (omega arith, (λ i. let h = ap nat_abs (blank 256 i (pos 0)) in omega (arith, h)), omega arith)
 
-pub within_charged : (𝓜 : Machine) (b : Books) (c : Charge) (n : ℕ) → n ≤ 65534 → Within b n → SFits w32 c.amount → Within (charged_one 𝓜 b c) (n + 1)
-unfolding charged_one
-within_charged 𝓜 b c n few ok f = go (is_caller who)
-  where
-    who : ℕ
-    who = payer_in 𝓜 b.payers c
-
-    few' : count b ≤ 65535
-    few' = omega (arith, ok.0)
-
-    more : (z : ℤ) → nat_abs z ≤ count b * 2147483648 → nat_abs z ≤ (count b + 1) * 2147483648
-    more z h = omega (arith, h)
-
-    go : (t : Bool) → Within (gained t who c.amount b) (n + 1)
-    go true =
-        let old = get_or b.totals who (pos 0) in
-        let near : (z : ℤ) → nat_abs z ≤ (count b + 1) * 2147483648 → nat_abs z ≤ (b.placed + 1 + b.missed) * 2147483648 = λ z h. omega (arith, h) in (
-          omega (arith, ok.0),
-          (λ j. near_set b.totals who j (old +ℤ c.amount) _ (near (old +ℤ c.amount) (gains_near old c.amount (count b) few' (ok.1 who) f))
-              (near (get_or b.totals j (pos 0)) (more (get_or b.totals j (pos 0)) (ok.1 j)))),
-          near b.unplaced (more b.unplaced ok.2),
-        )
-    go false =
-        let near : (z : ℤ) → nat_abs z ≤ (count b + 1) * 2147483648 → nat_abs z ≤ (b.placed + (b.missed + 1)) * 2147483648 = λ z h. omega (arith, h) in (
-          omega (arith, ok.0),
-          (λ j. near (get_or b.totals j (pos 0)) (more (get_or b.totals j (pos 0)) (ok.1 j))),
-          near (b.unplaced +ℤ c.amount) (gains_near b.unplaced c.amount (count b) few' ok.2 f),
-        )
-
--- and so the books that are these
-pub within_next : (𝓜 : Machine) (b : Books) (c : Charge) {r : Books} → r ≡ charged_one 𝓜 b c → Within b 65534 → SFits w32 c.amount → Within r (count b + 1)
-within_next 𝓜 b c is ok f =
-    subst (λ (x : Books). Within x (count b + 1)) (sym is) (within_charged 𝓜 b c (count b) ok.0 (omega arith, ok.1, ok.2) f)
-
--- ---- one charge, as the code books it: the sum fits, and the books are these
+-- ---- one charge, as the code books it: the books are these
 module _ (b : Books) (c : Charge) (ok : Within b 65534) (f : SFits w32 c.amount) where
   few : count b ≤ 65535
   few = omega (arith, ok.0)
-
-  pub asks_placed : (who : ℕ) → SFits w64 (to_z w64 (of_z w64 (get_or b.totals who (pos 0))) +ℤ to_z w32 (of_z w32 c.amount))
-  asks_placed who = gains_fit_bits (get_or b.totals who (pos 0)) c.amount (count b) few (ok.1 who) f
-
-  pub asks_unplaced : SFits w64 (to_z w64 (of_z w64 b.unplaced) +ℤ to_z w32 (of_z w32 c.amount))
-  asks_unplaced = gains_fit_bits b.unplaced c.amount (count b) few ok.2 f
 
   module _ {who : ℕ} (is : who ≡ payer_in eight b.payers c) (r : ℤ) where
     pub books_placed : who < 256 → r ≡ to_z w64 (of_z w64 (get_or b.totals who (pos 0))) +ℤ to_z w32 (of_z w32 c.amount)
@@ -130,21 +83,13 @@ pub charged_end : (𝓜 : Machine) (b : Books) (cs : List Charge) (i : ℕ) → 
 unfolding charged_all
 charged_end 𝓜 b cs i h = rw (drop_of_length-le cs h)
 
--- ---- the charges that are taken: how many, and each of them
-pub taken-length : (o : Outcome) (cs : List Charge) → cond (succeeds o) (length cs) 0 ≡ length (taken o cs)
-taken-length o cs = go (succeeds o)
+-- ---- the charges that are taken: the list that is walked, and how many
+pub taken_is : (o : Outcome) (cs : List Charge) (n : ℕ) → n ≡ cond (succeeds o) (length cs) 0 → take n cs ≡ taken o cs
+taken_is o cs n e = rw e (go (succeeds o))
   where
-    go : (b : Bool) → cond b (length cs) 0 ≡ length (cond b cs [])
-    go true = refl
+    go : (b : Bool) → take (cond b (length cs) 0) cs ≡ cond b cs []
+    go true = take-length cs
     go false = refl
-
-pub taken_at : (o : Outcome) (cs : List Charge) (i : ℕ) (d : Charge) → i < length (taken o cs)
-    → (i < length cs) × (get_or cs i d ≡ get_or (taken o cs) i d)
-taken_at o cs i d = go (succeeds o)
-  where
-    go : (b : Bool) → i < length (cond b cs []) → (i < length cs) × (get_or cs i d ≡ get_or (cond b cs []) i d)
-    go true h = (h, refl)
-    go false h = absurd (not-suc-le-zero h)
 
 pub taken_few : (s : Tables) (cs : List Charge) → length (taken (reported eight s (length cs)) cs) ≤ 65535
 unfolding checked

@@ -1,7 +1,7 @@
 -- The size of a sum of signed amounts: a total of n amounts of 32 bits is at most n times 2 ^ 31 from 0, so that it fits 64 bits. Assumes nothing.
 use Prim.Native.Nat.{ℕ, suc, ◌+◌, ◌*◌, ◌<◌, ◌≤◌}
 use native.Mathlib.Omega.{arith}
-use mathlib.Core.Path.{◌≡◌, refl, sym, ap, subst, ◌∙◌}
+use mathlib.Core.Path.{◌≡◌, refl, ap, ◌∙◌}
 use mathlib.Core.Bool.{Bool, true, false}
 use borrow.Author.Tests.{ltb-true, ltb-false}
 use lib.Dec.{ltb}
@@ -30,7 +30,7 @@ mag_nat_abs (negsuc n) = omega arith
 
 -- a total z of n amounts gains an amount a
 module _ (z a : ℤ) (n : ℕ) (few : n ≤ 65535) (near : nat_abs z ≤ n * 2147483648) (f : SFits w32 a) where
-  pub gains_near : nat_abs (z +ℤ a) ≤ (n + 1) * 2147483648
+  gains_near : nat_abs (z +ℤ a) ≤ (n + 1) * 2147483648
   gains_near = let s = nat_abs_add z a in let k = nat_abs-le a f.sfits in omega (arith, s, k)
 
   gains_fit : SFits w64 (z +ℤ a)
@@ -42,9 +42,6 @@ module _ (z a : ℤ) (n : ℕ) (few : n ≤ 65535) (near : nat_abs z ≤ n * 214
   -- the same of what a machine reads from the bits of the two
   read : to_z w64 (of_z w64 z) +ℤ to_z w32 (of_z w32 a) ≡ z +ℤ a
   read i = to_z-of_z {w = w64} total_fits i +ℤ to_z-of_z {w = w32} f i
-
-  pub gains_fit_bits : SFits w64 (to_z w64 (of_z w64 z) +ℤ to_z w32 (of_z w32 a))
-  gains_fit_bits = subst (SFits w64) (sym read) gains_fit
 
   pub gains_bits : (r : ℤ) → r ≡ to_z w64 (of_z w64 z) +ℤ to_z w32 (of_z w32 a) → to_z w64 (of_z w64 r) ≡ z +ℤ a
   gains_bits r e = ap (λ (y : ℤ). to_z w64 (of_z w64 y)) (e ∙ read) ∙ to_z-of_z {w = w64} gains_fit

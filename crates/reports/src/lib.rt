@@ -6,10 +6,14 @@ ghost use Rattle.std.specs.Int.{w64};
 ghost use Rattle.std.proofs.Common.{SFits};
 ghost use Rattle.tables.specs.Machine.{eight, tables};
 ghost use Rattle.rules.specs.Answers.{succeeds};
-ghost use Rattle.reports.specs.Report.{report};
+ghost use Rattle.rules.specs.Refusals.{report_lines};
+ghost use Rattle.quiet.specs.Verdicts.{first_hit};
+ghost use Rattle.reports.specs.Report.{reported, report};
 ghost use Rattle.reports.specs.Charging.{payer_seen, opened_of, charged_one, finished_of, count, Within};
 
 use payers::NOBODY;
+use quiet::refusals::state_refusal;
+use quiet::verdict::refuse_if;
 use tables::{ALL_CELLS, CELLS, Outcome, Refusal, State, WORKERS};
 
 // How many callers there are, and how many charges a list may have.
@@ -46,21 +50,52 @@ pub struct Books {
     pub missed: u32,
 }
 
-// Of n charges, before the first.
-fn opened(s: State, n: usize) -> Books
-    ensures { result ≡ opened_of eight (tables s) n }
+// What the books have come to.
+impl From<Books> for CostReport {
+    ghost from_gives = { λ b r. r ≡ finished_of b };
+
+    fn from(b: Books) -> CostReport {
+        let totals = b.totals;
+        CostReport {
+            outcome: b.outcome,
+            totals,
+            unplaced: b.unplaced,
+            placed: b.placed,
+            missed: b.missed,
+        }
+    }
+}
+
+// 2 and 17, of a report on n charges.
+#[tactic(auto, unfolding(quiet::specs::Verdicts::first_hit))]
+fn report_refusals(sound: bool, n: usize) -> Result<(), Refusal>
+    ensures { result ≡ first_hit (report_lines sound n) }
 {
-    let verdict = quiet::refusals::state_refusal(sound::is_sound(s)).refuse_if(
-        MOST_CHARGES < n,
-        Refusal::TooManyCharges,
-    );
-    let answer = verdict.answer(changes::unchanged(Outcome::Done(0)));
-    let outcome = answer.outcome;
+    state_refusal(sound)?;
+    refuse_if(MOST_CHARGES < n, Refusal::TooManyCharges)
+}
+
+// The outcome of a report on n charges.
+#[tactic(auto, unfolding(quiet::specs::Verdicts::first_hit, rules::specs::Answers::checked))]
+fn reported(s: &State, n: usize) -> Outcome
+    ensures { result ≡ reported eight (tables s.now) n }
+{
+    match report_refusals(sound::is_sound(s), n) {
+        Ok(()) => Outcome::Done(0),
+        Err(why) => Outcome::Refused(why),
+    }
+}
+
+// The books for n charges, before the first.
+fn opened(s: &State, n: usize) -> Books
+    ensures { result ≡ opened_of eight (tables s.now) n }
+{
     let payers = payers::payers_of(s);
+    let totals = [0i64; CALLERS];
     Books {
-        outcome: outcome,
-        payers: payers,
-        totals: [0i64; CALLERS],
+        outcome: reported(s, n),
+        payers,
+        totals,
         unplaced: 0,
         placed: 0,
         missed: 0,
@@ -68,16 +103,12 @@ fn opened(s: State, n: usize) -> Books
 }
 
 // How many of n charges are taken: all, or none where the report is refused.
-fn taken(b: Books, n: usize) -> usize
-    ensures { result ≡ cond (succeeds b.outcome) n 0 }
+fn taken(outcome: Outcome, n: usize) -> usize
+    ensures { result ≡ cond (succeeds outcome) n 0 }
 {
-    let outcome = b.outcome;
     match outcome {
-        Outcome::Done(_) => n,
-        Outcome::Sent(_) => n,
-        Outcome::Waiting => n,
-        Outcome::Unbound => n,
         Outcome::Refused(_) => 0,
+        _ => n,
     }
 }
 
@@ -86,8 +117,7 @@ fn plus(total: i64, amount: i32) -> i64
     requires { SFits w64 (total +ℤ amount) }
     ensures { result ≡ total +ℤ amount }
 {
-    let x = amount as i64;
-    total + x
+    total + i64::from(amount)
 }
 
 // Who pays for the cell c of worker w, where `who` is read.
@@ -95,68 +125,42 @@ fn plus(total: i64, amount: i32) -> i64
 fn payer_seen(w: u8, c: u8, who: u16) -> u16
     ensures { result ≡ payer_seen eight w c who }
 {
-    if WORKERS <= w {
-        return NOBODY;
+    if w < WORKERS && c < CELLS {
+        who
+    } else {
+        NOBODY
     }
-    if CELLS <= c {
-        return NOBODY;
-    }
-    who
 }
 
 // One charge more: its payer's total gains the amount, or the unplaced one.
-fn charged(b: Books, c: Charge) -> Books
+fn charged(mut b: Books, c: Charge) -> Books
     requires { Within b 65534 }
     ensures value { result ≡ charged_one eight b c }
     ensures within { Within result (count b + 1) }
 {
-    let mut u = b;
-    let w = c.worker;
-    let d = c.cell;
-    let amount = c.amount;
-    let i = places::cell_index(w, d);
-    let read = u.payers[i];
-    let who = payer_seen(w, d, read);
+    let i = places::cell_index(c.worker, c.cell);
+    let who = payer_seen(c.worker, c.cell, b.payers[i]);
     if who < NOBODY {
         let j = who as usize;
-        let old = u.totals[j];
-        let new = plus(old, amount);
-        u.totals[j] = new;
-        u.placed = u.placed + 1;
+        let new = plus(b.totals[j], c.amount);
+        b.totals[j] = new;
+        b.placed += 1;
     } else {
-        let old = u.unplaced;
-        let new = plus(old, amount);
-        u.unplaced = new;
-        u.missed = u.missed + 1;
+        let new = plus(b.unplaced, c.amount);
+        b.unplaced = new;
+        b.missed += 1;
     }
-    u
-}
-
-// What the books have come to.
-fn finished(b: Books) -> CostReport
-    ensures { result ≡ finished_of b }
-{
-    let outcome = b.outcome;
-    let totals = b.totals;
-    CostReport {
-        outcome: outcome,
-        totals: totals,
-        unplaced: b.unplaced,
-        placed: b.placed,
-        missed: b.missed,
-    }
+    b
 }
 
 // What the charges come to for each caller, or why they are refused: 2, then 17.
 pub fn report(s: State, charges: &[Charge]) -> CostReport
     ensures { result ≡ report eight (tables s) charges.now }
 {
-    let mut books = opened(s, charges.len());
-    let n = taken(books, charges.len());
-    let mut i = 0;
-    while i < n {
-        books = charged(books, charges[i]);
-        i = i + 1;
+    let mut books = opened(&s, charges.len());
+    let n = taken(books.outcome, charges.len());
+    for c in &charges[..n] {
+        books = charged(books, *c);
     }
-    finished(books)
+    CostReport::from(books)
 }

@@ -16,12 +16,10 @@ use Rattle.tables.specs.declared.Status.{Status}
 use Rattle.tables.specs.declared.Status.TheVariants.{Idle, Reading, Known}
 use Rattle.tables.specs.declared.Kind.{Kind}
 use Rattle.tables.specs.declared.Kind.TheVariants.{Free, Var, Val, Ref, Ex}
-use Rattle.tables.specs.declared.Holding.{Holding}
-use Rattle.tables.specs.declared.Holding.TheVariants.{Unused, Live}
 use Rattle.tables.specs.declared.Message.{Message}
 use Rattle.tables.specs.declared.Message.TheVariants.{Empty, Reference, Release, Read, Answer, Ask, Supply}
 use Rattle.tables.specs.Machine.{Machine, Tables}
-use Rattle.tables.specs.Parts.{Place, place, is_free, is_var, is_val, ex_names, named_by, is_live, is_tainted, entry_names, entry_weight, is_empty, goes_to, cell_of, reading_of}
+use Rattle.tables.specs.Parts.{Holding, live, Place, place, is_free, is_var, is_val, ex_names, named_by, is_live, is_tainted, entry_names, entry_weight, is_empty, goes_to, cell_of, reading_of}
 use Rattle.tables.specs.Look.{cell, entry, end, end_kind, ex_naming, lowest_free_cell, booked, message, put_cell, put_entry, put_message, changed}
 use Rattle.rules.specs.Answers.{made}
 use Rattle.states.specs.Chains.{entry_end, follow, ahead, EndsIn}
@@ -112,14 +110,14 @@ module _ (𝓜 : Machine) (L : Laws 𝓜) (s : Tables) (F : Facts 𝓜 s) (reads
           live (kind_same (cell 𝓜 s 0 0))
           (λ ρ R. B.cost (next 𝓜 s (entry_move 𝓜 s o e x₀ x k m₀ Empty)) ρ)
 
-      go : (c n : ℕ) (t : Bool) → entry 𝓜 s o e ≡ Live c n t → EntryFact 𝓜 s o (Live c n t) → o < 𝓜.workers → e < 𝓜.entries → k < 𝓜.slots → w ≤ n
-          → (b : Bool) → leb n w ≡ b → Delivers 𝓜 s (put_message (put_entry 𝓜 s o e (cond b Unused (Live c (n - w) t))) k Empty)
+      go : (c n : ℕ) (t : Bool) → entry 𝓜 s o e ≡ live c n t → EntryFact 𝓜 s o (live c n t) → o < 𝓜.workers → e < 𝓜.entries → k < 𝓜.slots → w ≤ n
+          → (b : Bool) → leb n w ≡ b → Delivers 𝓜 s (put_message (put_entry 𝓜 s o e (cond b None (live c (n - w) t))) k Empty)
       go c n t q f oi ei ki enough true all =
-          taken (Live c n t) Unused q oi ei ki tt (λ a b. absurd_bool b refl) (λ f d a b. absurd_bool a refl) (λ y. refl)
+          taken (live c n t) None q oi ei ki tt (λ a b. absurd_bool b refl) (λ f d a b. absurd_bool a refl) (λ y. refl)
           (omega (arith, leb-true n w all))
       go c n t q f oi ei ki enough false some =
           let more = leb-false n w some in
-          taken (Live c n t) (Live c (n - w) t) q oi ei ki
+          taken (live c n t) (live c (n - w) t) q oi ei ki
           (entry_next 𝓜 s F (entry_placed 𝓜 L s oi ei ki q B.slot) c (n - w) t (omega (arith, f.0)) (omega arith) f.2 f.3)
           (λ a b. (refl, refl))
           (λ y d a b. F.entry_once o y e d b (ap (entry_names d) q ∙ a))
@@ -293,7 +291,7 @@ module _ (𝓜 : Machine) (L : Laws 𝓜) (s : Tables) (F : Facts 𝓜 s) (reads
         no_end y v n (plain t) = absurd_bool t v
         no_end y v n (leads a b t) = nowhere_at (sym n ∙ t)
 
-        at_end : {d n : ℕ} {t : Bool} → entry 𝓜 s o e ≡ Live d n t → (y : Kind) → cell 𝓜 s o (end 𝓜 s o d) ≡ y → EndIs y → not (is_var y) ≡ true
+        at_end : {d n : ℕ} {t : Bool} → entry 𝓜 s o e ≡ live d n t → (y : Kind) → cell 𝓜 s o (end 𝓜 s o d) ≡ y → EndIs y → not (is_var y) ≡ true
             → Delivers 𝓜 s (put_message s k (read_on r c (Read r c o e) y))
         at_end i Free j is w = no_end Free refl refl is
         at_end i (Var caller) j is w = absurd_bool w refl
@@ -389,13 +387,13 @@ module _ (𝓜 : Machine) (L : Laws 𝓜) (s : Tables) (F : Facts 𝓜 s) (reads
       let small = min-le_right 𝓜.first_weight (𝓜.ceiling - l.weight) in
       rw l.is (go given l.is (live_fact 𝓜 s F o e l) inside.0 inside.1 small (the_ex_of o e (cell 𝓜 s a c) names))
     where
-      go : {d n : ℕ} {t : Bool} (w : ℕ) → entry 𝓜 s o e ≡ Live d n t → EntryFact 𝓜 s o (Live d n t) → o < 𝓜.workers → e < 𝓜.entries
-          → w ≤ 𝓜.ceiling - n → ExOf o e (cell 𝓜 s a c) → Delivers 𝓜 s (put_message (put_entry 𝓜 s o e (Live d (n + w) t)) k (Supply a c w))
+      go : {d n : ℕ} {t : Bool} (w : ℕ) → entry 𝓜 s o e ≡ live d n t → EntryFact 𝓜 s o (live d n t) → o < 𝓜.workers → e < 𝓜.entries
+          → w ≤ 𝓜.ceiling - n → ExOf o e (cell 𝓜 s a c) → Delivers 𝓜 s (put_message (put_entry 𝓜 s o e (live d (n + w) t)) k (Supply a c w))
       go {d} {n} {t} w i f oi ei small x =
           let within = message_inside k (ap is_empty q) in
-          let placed : Placed 𝓜 s (entry_move 𝓜 s o e (Live d n t) (Live d (n + w) t) k (Ask a c o e) (Supply a c w)) = entry_placed 𝓜 L s oi ei within i q in
+          let placed : Placed 𝓜 s (entry_move 𝓜 s o e (live d n t) (live d (n + w) t) k (Ask a c o e) (Supply a c w)) = entry_placed 𝓜 L s oi ei within i q in
           let at_place : (y z : ℕ) → ex_names y z (cell 𝓜 s a c) ≡ (eqb o y && eqb e z) = λ y z. ap (ex_names y z) x.is in
-          delivers_by 𝓜 s (stores_entry 𝓜 L s F o e (Live d n t) (Live d (n + w) t) k (Ask a c o e) (Supply a c w)
+          delivers_by 𝓜 s (stores_entry 𝓜 L s F o e (live d n t) (live d (n + w) t) k (Ask a c o e) (Supply a c w)
           (record {
             o_in = oi;
             e_in = ei;

@@ -11,11 +11,10 @@ use borrow.Author.Tests.{eq-eqb, eqb-true}
 use Rattle.numbers.specs.Tests.{absurd_bool}
 use Rattle.tables.specs.declared.Kind.{Kind}
 use Rattle.tables.specs.declared.Kind.TheVariants.{Free, Var, Val, Ref, Ex}
-use Rattle.tables.specs.declared.Holding.{Holding}
 use Rattle.tables.specs.declared.Message.{Message}
 use Rattle.tables.specs.declared.Message.TheVariants.{Empty, Reference, Release, Read, Answer, Ask, Supply}
 use Rattle.tables.specs.Machine.{Machine, Tables}
-use Rattle.tables.specs.Parts.{place, is_free, is_var, is_val, has_caller, ex_names, is_live, entry_names, cell_of}
+use Rattle.tables.specs.Parts.{Holding, place, is_free, is_var, is_val, has_caller, ex_names, is_live, entry_names, cell_of}
 use Rattle.tables.specs.Look.{cell, entry, exported, message}
 use Rattle.states.specs.Chains.{ahead, LeadsTo}
 use Rattle.states.specs.Sound.{message_holds}

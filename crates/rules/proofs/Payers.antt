@@ -12,12 +12,10 @@ use borrow.Author.Tests.{eq-eqb}
 use Rattle.numbers.specs.Tests.{absurd_bool, or_else}
 use Rattle.tables.specs.declared.Kind.{Kind}
 use Rattle.tables.specs.declared.Kind.TheVariants.{Free, Var, Val, Ref, Ex}
-use Rattle.tables.specs.declared.Holding.{Holding}
-use Rattle.tables.specs.declared.Holding.TheVariants.{Unused, Live}
 use Rattle.tables.specs.declared.Change.TheVariants.{OfCell}
 use Rattle.tables.specs.declared.Call.TheVariants.{Bind}
 use Rattle.tables.specs.Machine.{Machine, Tables}
-use Rattle.tables.specs.Parts.{Place, place, is_free, is_var, is_val, caller_of, is_ex, is_known, ex_names, named_by, end_from, is_live, entry_names, cell_of}
+use Rattle.tables.specs.Parts.{Holding, Place, place, is_free, is_var, is_val, caller_of, is_ex, is_known, ex_names, named_by, end_from, is_live, entry_names, cell_of}
 use Rattle.tables.specs.Look.{cell, entry, end, end_kind, safe, exported, live_entries, put_cell, changed}
 use Rattle.states.specs.Machines.{Laws}
 use Rattle.states.specs.Chains.{entry_end, follow, ahead, LeadsTo}
@@ -133,18 +131,18 @@ module _ (𝓜 : Machine) (s t : Tables) (v d : ℕ) (context : VarOrVal (cell �
       go (Some p) q rec = pays_next 𝓜 t n p.owner p.entry k q ∙ by (entry 𝓜 s p.owner p.entry) refl ∙ sym (pays_next 𝓜 s n p.owner p.entry k q)
         where
           by : (x : Holding) → entry 𝓜 s p.owner p.entry ≡ x → pays_from 𝓜 t n (entry_end 𝓜 t p.owner (entry 𝓜 t p.owner p.entry)) ≡ pays_from 𝓜 s n (entry_end 𝓜 s p.owner (entry 𝓜 s p.owner p.entry))
-          by Unused i = rw (entries p.owner p.entry, i) (rec Free (λ a b j. nowhere_at j))
-          by (Live c w u) i = rw (entries p.owner p.entry, i) (⊎_elim here there (spot v d p.owner c))
+          by None i = rw (entries p.owner p.entry, i) (rec Free (λ a b j. nowhere_at j))
+          by (Some x) i = rw (entries p.owner p.entry, i) (⊎_elim here there (spot v d p.owner x.cell))
             where
-              here : (v ≡ p.owner) × (d ≡ c) → pays_from 𝓜 t n (end_kind 𝓜 t p.owner c) ≡ pays_from 𝓜 s n (end_kind 𝓜 s p.owner c)
+              here : (v ≡ p.owner) × (d ≡ x.cell) → pays_from 𝓜 t n (end_kind 𝓜 t p.owner x.cell) ≡ pays_from 𝓜 s n (end_kind 𝓜 s p.owner x.cell)
               here j =
-                  let names : entry_names d (entry 𝓜 s v p.entry) ≡ true = rw (j.0, i) (eq-eqb c d (sym j.1)) in
+                  let names : entry_names d (entry 𝓜 s v p.entry) ≡ true = rw (j.0, i) (eq-eqb x.cell d (sym j.1)) in
                   absurd (apart p.owner p.entry q (record { steps = 0; number = p.entry; there = ap (λ (y : ℕ). place y p.entry) (sym j.0); names = names; var_or_val = context }))
 
-              there : (v ≡ p.owner → d ≡ c → ⊥) → pays_from 𝓜 t n (end_kind 𝓜 t p.owner c) ≡ pays_from 𝓜 s n (end_kind 𝓜 s p.owner c)
+              there : (v ≡ p.owner → d ≡ x.cell → ⊥) → pays_from 𝓜 t n (end_kind 𝓜 t p.owner x.cell) ≡ pays_from 𝓜 s n (end_kind 𝓜 s p.owner x.cell)
               there f =
-                  ap (pays_from 𝓜 t n) (elsewhere p.owner c f)
-                  ∙ rec (end_kind 𝓜 s p.owner c) (λ a b j l. apart p.owner p.entry q (leads_before 𝓜 s p.owner p.entry a b v d (follow_live 𝓜 s p.owner p.entry i ∙ j) l))
+                  ap (pays_from 𝓜 t n) (elsewhere p.owner x.cell f)
+                  ∙ rec (end_kind 𝓜 s p.owner x.cell) (λ a b j l. apart p.owner p.entry q (leads_before 𝓜 s p.owner p.entry a b v d (follow_live 𝓜 s p.owner p.entry i ∙ j) l))
 
 -- ---- in a reached state
 module _ (𝓜 : Machine) (L : Laws 𝓜) (s : Tables) (I : Invariant 𝓜 s) where

@@ -15,8 +15,6 @@ use Rattle.tables.specs.declared.Status.{Status}
 use Rattle.tables.specs.declared.Status.TheVariants.{Idle, Reading, Known}
 use Rattle.tables.specs.declared.Kind.{Kind}
 use Rattle.tables.specs.declared.Kind.TheVariants.{Val, Ex}
-use Rattle.tables.specs.declared.Holding.{Holding}
-use Rattle.tables.specs.declared.Holding.TheVariants.{Unused, Live}
 use Rattle.tables.specs.declared.Message.{Message}
 use Rattle.tables.specs.declared.Message.TheVariants.{Empty, Reference, Release, Read, Answer, Ask, Supply}
 use Rattle.tables.specs.declared.Outcome.TheVariants.{Done}
@@ -24,7 +22,7 @@ use Rattle.tables.specs.declared.Call.{Call}
 use Rattle.tables.specs.declared.Call.TheVariants.{Start, New, Set, Bind, Export, Indirect, Transfer, Drop, ReadCell, AskWeight, Deliver, Bound}
 use Rattle.tables.specs.declared.Effect.{Effect}
 use Rattle.tables.specs.Machine.{Machine, Tables}
-use Rattle.tables.specs.Parts.{place, is_free, is_var, is_val, caller_of, is_reading, named_by, is_live, entry_weight, is_empty}
+use Rattle.tables.specs.Parts.{Holding, place, is_free, is_var, is_val, caller_of, is_reading, named_by, is_live, entry_weight, is_empty}
 use Rattle.tables.specs.Look.{cell, entry, message, put_cell, changed}
 use Rattle.rules.specs.Answers.{Result, answered, made, succeeds, checked}
 use Rattle.states.specs.Sound.{reads_for, reads_of, held, sound}
@@ -55,6 +53,7 @@ use Rattle.rules.proofs.Begun.{start_free, start_invariant}
 use Rattle.rules.proofs.Chains.{ends_one, on_chain}
 use Rattle.rules.proofs.Payers.{comes_to_context, context_pays, cell_is_paid, keeps_payers, bind_moves_payers}
 use Rattle.rules.proofs.KnownBind.{known_bind_is_done, value_ends}
+use Rattle.std.specs.Prelude.{None, Some}
 
 -- ---- every sequence
 module _ (𝓜 : Machine) where
@@ -143,8 +142,8 @@ module _ (𝓜 : Machine) (L : Laws 𝓜) where
       I = reached_invariant s r
 
       go : (x : Holding) → EntryFact 𝓜 s w x → entry_weight x ≡ held 𝓜 s w e → is_live x ≡ not (eqb (held 𝓜 s w e) 0)
-      go Unused f q = sym (ap not (eq-eqb (held 𝓜 s w e) 0 (sym q)))
-      go (Live c n t) f q = sym (ap not (ne_eqb (held 𝓜 s w e) 0 (λ z. omega (arith, f.1))))
+      go None f q = sym (ap not (eq-eqb (held 𝓜 s w e) 0 (sym q)))
+      go (Some l) f q = sym (ap not (ne_eqb (held 𝓜 s w e) 0 (λ z. omega (arith, f.1))))
 
   -- ---- one delivery: refused where the slot holds no ready message, and else the message arrives
   message_done : (s : Tables) (k : ℕ) (m : Message) → succeeds (deliver_message 𝓜 s k m).outcome ≡ true

@@ -4,74 +4,70 @@ ghost use Rattle.tables.specs.Machine.{eight};
 ghost use Rattle.tables.specs.Parts.{is_ex};
 ghost use Rattle.rules.specs.Refusals.{idle, read_sends, no_slot_if};
 ghost use Rattle.rules.specs.Refusals.{send_lines, room_lines, by_reference_lines, by_location_lines};
-ghost use Rattle.quiet.specs.declared.verdict.Verdict.TheVariants.{Go};
-ghost use Rattle.quiet.specs.Verdicts.{along};
+ghost use Rattle.quiet.specs.Verdicts.{first_hit};
 
 use quiet::refusals::worker_refusals;
-use quiet::verdict::Verdict;
+use quiet::verdict::refuse_if;
 use tables::{CEILING, ENTRIES, FIRST_WEIGHT, Kind, Refusal, Room, SLOTS, Status, Used};
 
 // ---- lists of refusals
 
 // What export, indirect and transfer test first.
-#[tactic(auto, unfolding(quiet::specs::Verdicts::along))]
-pub fn send_refusals(sound: bool, p: u8, w: u8, to: u8, k: Kind) -> Verdict
-    ensures { result ≡ along Go (send_lines sound p w to k) }
+#[tactic(auto, unfolding(quiet::specs::Verdicts::first_hit))]
+pub fn send_refusals(sound: bool, p: u8, w: u8, to: u8, k: Kind) -> Result<(), Refusal>
+    ensures { result ≡ first_hit (send_lines sound p w to k) }
 {
-    worker_refusals(sound, p, w)
-        .refuse_if(p <= to, Refusal::NoWorker)
-        .refuse_if(to == w, Refusal::ToItself)
-        .refuse_if(parts::is_free(k), Refusal::NoCell)
+    worker_refusals(sound, p, w)?;
+    refuse_if(p <= to, Refusal::NoWorker)?;
+    refuse_if(to == w, Refusal::ToItself)?;
+    refuse_if(parts::is_free(k), Refusal::NoCell)
 }
 
 // 13, where a message is sent and this is the lowest empty slot.
-#[tactic(auto, unfolding(quiet::specs::Verdicts::along))]
-pub fn slot_refusal(v: Verdict, sends: bool, slot: u8) -> Verdict
-    ensures { result ≡ along v (no_slot_if eight sends slot ∷ []) }
+#[tactic(auto, unfolding(quiet::specs::Verdicts::first_hit))]
+pub fn slot_refusal(sends: bool, slot: u8) -> Result<(), Refusal>
+    ensures { result ≡ first_hit (no_slot_if eight sends slot ∷ []) }
 {
-    v.refuse_if(numbers::both(sends, SLOTS <= slot), Refusal::NoSlot)
+    refuse_if(sends && SLOTS <= slot, Refusal::NoSlot)
 }
 
 // 12 at the receiver, and 13.
-#[tactic(auto, unfolding(quiet::specs::Verdicts::along))]
-pub fn room_refusals(v: Verdict, room: Room) -> Verdict
-    ensures { result ≡ along v (room_lines eight room) }
+#[tactic(auto, unfolding(quiet::specs::Verdicts::first_hit))]
+pub fn room_refusals(room: Room) -> Result<(), Refusal>
+    ensures { result ≡ first_hit (room_lines eight room) }
 {
-    let full = room.free <= room.booked;
-    slot_refusal(v.refuse_if(full, Refusal::NoRoom), true, room.slot)
+    refuse_if(room.free <= room.booked, Refusal::NoRoom)?;
+    slot_refusal(true, room.slot)
 }
 
 // 9, 12 and 13: the EX ex is exported by reference.
-#[tactic(auto, unfolding(quiet::specs::Verdicts::along))]
-fn by_reference_refusals(v: Verdict, ex: Kind, room: Room) -> Verdict
-    ensures { result ≡ along v (by_reference_lines eight ex room) }
+#[tactic(auto, unfolding(quiet::specs::Verdicts::first_hit))]
+fn by_reference_refusals(ex: Kind, room: Room) -> Result<(), Refusal>
+    ensures { result ≡ first_hit (by_reference_lines eight ex room) }
 {
-    let last = parts::ex_weight(ex) <= 1;
-    room_refusals(v.refuse_if(last, Refusal::LastWeight), room)
+    refuse_if(parts::ex_weight(ex) <= 1, Refusal::LastWeight)?;
+    room_refusals(room)
 }
 
 // 10 to 13: a cell is exported by location, with the entry u. One above 1,048,576 - 1,024 would pass the ceiling.
-#[tactic(auto, unfolding(quiet::specs::Verdicts::along))]
-pub fn by_location_refusals(v: Verdict, u: Used, room: Room) -> Verdict
-    ensures { result ≡ along v (by_location_lines eight u room) }
+#[tactic(auto, unfolding(quiet::specs::Verdicts::first_hit))]
+pub fn by_location_refusals(u: Used, room: Room) -> Result<(), Refusal>
+    ensures { result ≡ first_hit (by_location_lines eight u room) }
 {
-    let e = u.number;
-    let holding = u.holding;
-    let over = CEILING - FIRST_WEIGHT < parts::entry_weight(holding);
-    let first = v
-        .refuse_if(over, Refusal::OverCeiling)
-        .refuse_if(ENTRIES <= e, Refusal::NoEntry);
-    room_refusals(first, room)
+    let over = CEILING - FIRST_WEIGHT < parts::entry_weight(u.holding);
+    refuse_if(over, Refusal::OverCeiling)?;
+    refuse_if(ENTRIES <= u.number, Refusal::NoEntry)?;
+    room_refusals(room)
 }
 
 // The end k of an exported cell: by reference where it is an EX, and else by location.
-pub fn end_refusals(v: Verdict, k: Kind, u: Used, room: Room) -> Verdict
-    ensures { result ≡ along v (cond (is_ex k) (by_reference_lines eight k room) (by_location_lines eight u room)) }
+pub fn end_refusals(k: Kind, u: Used, room: Room) -> Result<(), Refusal>
+    ensures { result ≡ first_hit (cond (is_ex k) (by_reference_lines eight k room) (by_location_lines eight u room)) }
 {
     if parts::is_ex(k) {
-        by_reference_refusals(v, k, room)
+        by_reference_refusals(k, room)
     } else {
-        by_location_refusals(v, u, room)
+        by_location_refusals(u, room)
     }
 }
 
@@ -90,9 +86,5 @@ pub fn read_sends(k: Kind) -> bool
 fn idle(st: Status) -> bool
     ensures { result ≡ idle st }
 {
-    match st {
-        Status::Idle => true,
-        Status::Reading => false,
-        Status::Known(_) => false,
-    }
+    matches!(st, Status::Idle)
 }

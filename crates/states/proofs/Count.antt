@@ -13,7 +13,6 @@ use Rattle.numbers.specs.Tests.{and_l, and_r, and_i}
 use Rattle.numbers.specs.BelowLaws.{sum_mono, sum_less, term_le}
 use Rattle.numbers.specs.ListLaws.{total_below}
 use Rattle.tables.specs.declared.Entry.{Entry}
-use Rattle.tables.specs.declared.Holding.TheVariants.{Unused}
 use Rattle.tables.specs.Machine.{Machine, Tables}
 use Rattle.tables.specs.Parts.{place, is_var, is_val, is_live}
 use Rattle.tables.specs.Look.{holding_at, entry, live_entries}
@@ -25,6 +24,7 @@ use Rattle.states.proofs.Inside.{entry_inside}
 use Rattle.states.proofs.Ends.{EndIs, plain, leads, entry_end_is, entry_leads}
 use Rattle.states.proofs.Derived.{follow_place}
 use Rattle.states.specs.Move.{Ranked}
+use Rattle.std.specs.Prelude.{None}
 
 -- where a holds only where b does
 pub bit_mono : (a b : Bool) → (a ≡ true → b ≡ true) → bit a ≤ bit b
@@ -47,7 +47,7 @@ module _ (𝓜 : Machine) (L : Laws 𝓜) (s : Tables) (z : Sized 𝓜 s) (r : �
   unfolding standing live_entries
   standing_live ρ =
       let long = z.entries_long in
-      let flat = total_below (λ (x : Entry). bit (is_live x.holding)) s.entries (record { holding = Unused }) in
+      let flat = total_below (λ (x : Entry). bit (is_live x.holding)) s.entries (record { holding = None }) in
       let same = ap (λ (n : ℕ). sum_below n (λ k. bit (is_live (holding_at s.entries k)))) long in
       omega (
         arith,

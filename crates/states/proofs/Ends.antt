@@ -6,10 +6,8 @@ use borrow.Author.Tests.{eq-eqb}
 use Rattle.numbers.specs.Tests.{absurd_bool}
 use Rattle.tables.specs.declared.Kind.{Kind}
 use Rattle.tables.specs.declared.Kind.TheVariants.{Free, Var, Val, Ref, Ex}
-use Rattle.tables.specs.declared.Holding.{Holding}
-use Rattle.tables.specs.declared.Holding.TheVariants.{Unused, Live}
 use Rattle.tables.specs.Machine.{Machine, Tables}
-use Rattle.tables.specs.Parts.{place, is_free, is_var, is_val, is_ex, named_by, end_from, is_live, entry_names, cell_of}
+use Rattle.tables.specs.Parts.{Holding, place, is_free, is_var, is_val, is_ex, named_by, end_from, is_live, entry_names, cell_of}
 use Rattle.tables.specs.Look.{cell, entry, end, end_kind}
 use Rattle.states.specs.Chains.{entry_end, follow}
 use Rattle.states.specs.Facts.{Facts}
@@ -17,6 +15,7 @@ use Rattle.states.proofs.Named.{the_ex, the_live}
 use Rattle.states.proofs.Walks.{follow_live}
 use Rattle.states.proofs.Derived.{live_fact, cell_fact}
 use Rattle.states.proofs.Kept.{end_self, end_ref}
+use Rattle.std.specs.Prelude.{None, Some}
 
 abbrev pub VarOrVal : Kind → Type 0
 VarOrVal k = (is_var k || is_val k) ≡ true
@@ -74,5 +73,5 @@ module _ (𝓜 : Machine) (s : Tables) (F : Facts 𝓜 s) where
   own_context a b live = go (entry 𝓜 s a b) live
     where
       go : (x : Holding) → is_live x ≡ true → VarOrVal (entry_end 𝓜 s a x) → (entry_names (cell_of x) x ≡ true) × VarOrVal (cell 𝓜 s a (cell_of x))
-      go Unused l t = absurd_bool l refl
-      go (Live d n u) l t = (eq-eqb d d refl, subst (λ (y : ℕ). VarOrVal (cell 𝓜 s a y)) (own_end a d t) t)
+      go None l t = absurd_bool l refl
+      go (Some x) l t = (eq-eqb x.cell x.cell refl, subst (λ (y : ℕ). VarOrVal (cell 𝓜 s a y)) (own_end a x.cell t) t)

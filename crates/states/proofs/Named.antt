@@ -1,5 +1,5 @@
 -- From a test of one part to the part itself: an EX that names an entry, an entry that names a cell. Assumes nothing.
-use Rattle.std.specs.Prelude.{None}
+use Rattle.std.specs.Prelude.{Some, None}
 use Prim.Native.Nat.{ℕ}
 use native.Mathlib.Omega.{arith}
 use mathlib.Core.Path.{◌≡◌, refl, ap, sym, ◌∙◌}
@@ -10,10 +10,8 @@ use Rattle.numbers.specs.Tests.{absurd_bool, and_l, and_r, and_i}
 use Rattle.tables.specs.declared.Status.{Status}
 use Rattle.tables.specs.declared.Kind.{Kind}
 use Rattle.tables.specs.declared.Kind.TheVariants.{Free, Var, Val, Ref, Ex}
-use Rattle.tables.specs.declared.Holding.{Holding}
-use Rattle.tables.specs.declared.Holding.TheVariants.{Unused, Live}
 use Rattle.tables.specs.declared.EntryName.{EntryName}
-use Rattle.tables.specs.Parts.{Place, place, on_ex, is_free, is_var, is_ex, ex_names, named_by, is_live, entry_names}
+use Rattle.tables.specs.Parts.{Holding, live, Place, place, on_ex, is_free, is_var, is_ex, ex_names, named_by, is_live, entry_names}
 
 -- two numbers tested at once
 pub both_eq : (a b c d : ℕ) → (eqb a b && eqb c d) ≡ true → (a ≡ b) × (c ≡ d)
@@ -92,11 +90,11 @@ named_ex o e (Ex o' e' n st a) q =
 pub record EntryOf (c : ℕ) (x : Holding) : Type 0 where
   pub weight : ℕ
   pub tainted : Bool
-  pub is : x ≡ Live c weight tainted
+  pub is : x ≡ live c weight tainted
 
 pub the_entry_of : (c : ℕ) (x : Holding) → entry_names c x ≡ true → EntryOf c x
-the_entry_of c Unused h = absurd_bool h refl
-the_entry_of c (Live d n t) h = record { weight = n; tainted = t; is = rw (eqb-true d c h) }
+the_entry_of c None h = absurd_bool h refl
+the_entry_of c (Some l) h = record { weight = l.weight; tainted = l.tainted; is = rw (eqb-true l.cell c h) }
 
 pub names_live_entry : (c : ℕ) (x : Holding) → entry_names c x ≡ true → is_live x ≡ true
 names_live_entry c x h = ap is_live (the_entry_of c x h).is
@@ -105,8 +103,8 @@ pub record IsLive (x : Holding) : Type 0 where
   pub cell : ℕ
   pub weight : ℕ
   pub tainted : Bool
-  pub is : x ≡ Live cell weight tainted
+  pub is : x ≡ live cell weight tainted
 
 pub the_live : (x : Holding) → is_live x ≡ true → IsLive x
-the_live Unused h = absurd_bool h refl
-the_live (Live c n t) h = record { cell = c; weight = n; tainted = t; is = refl }
+the_live None h = absurd_bool h refl
+the_live (Some l) h = record { cell = l.cell; weight = l.weight; tainted = l.tainted; is = refl }

@@ -9,10 +9,8 @@ use borrow.Author.Tests.{eq-eqb}
 use Rattle.numbers.specs.Tests.{absurd_bool}
 use Rattle.tables.specs.declared.Kind.{Kind}
 use Rattle.tables.specs.declared.Kind.TheVariants.{Free, Var, Val, Ref, Ex}
-use Rattle.tables.specs.declared.Holding.{Holding}
-use Rattle.tables.specs.declared.Holding.TheVariants.{Unused, Live}
 use Rattle.tables.specs.Machine.{Machine, Tables}
-use Rattle.tables.specs.Parts.{Place, place, is_free, is_var, is_ex, named_by, is_live, entry_names, cell_of}
+use Rattle.tables.specs.Parts.{Holding, live, Place, place, is_free, is_var, is_ex, named_by, is_live, entry_names, cell_of}
 use Rattle.tables.specs.Look.{cell, entry, end_kind, safe, exported}
 use Rattle.states.specs.Chains.{entry_end, follow, ahead, EndsIn}
 use Rattle.states.specs.Facts.{Facts}
@@ -83,12 +81,12 @@ module _ (𝓜 : Machine) (s : Tables) (h : Move) (F : Facts 𝓜 s) (K : Keeps 
 
   -- an entry that is live before and after, taken apart: the same cell
   pub after_live : (a b : ℕ) (l : IsLive (entry 𝓜 s a b)) → is_live (entry 𝓜 s' a b) ≡ true
-      → (n : ℕ) × (t : Bool) × (entry 𝓜 s' a b ≡ Live l.cell n t)
+      → (n : ℕ) × (t : Bool) × (entry 𝓜 s' a b ≡ live l.cell n t)
   after_live a b l t =
       let l' = the_live (entry 𝓜 s' a b) t in
       let r = live_kept 𝓜 s h F K a b (ap is_live l.is) t in
       let same : l'.cell ≡ l.cell = sym (ap cell_of l'.is) ∙ r.0 ∙ ap cell_of l.is in
-      (l'.weight, l'.tainted, l'.is ∙ ap (λ (y : ℕ). Live y l'.weight l'.tainted) same)
+      (l'.weight, l'.tainted, l'.is ∙ ap (λ (y : ℕ). live y l'.weight l'.tainted) same)
 
   -- a step stays
   pub follow_kept : (a b o e : ℕ) → follow 𝓜 s (place a b) ≡ place o e → is_live (entry 𝓜 s' a b) ≡ true → follow 𝓜 s' (place a b) ≡ place o e
@@ -132,16 +130,16 @@ module _ (𝓜 : Machine) (s : Tables) (h : Move) (F : Facts 𝓜 s) (K : Keeps 
       go : (y : Holding) → entry 𝓜 s x.owner x.number ≡ y → entry_end 𝓜 s x.owner y ≡ Val v x.caller
           → is_live (entry 𝓜 s' x.owner x.number) ≡ true
           → entry_end 𝓜 s' x.owner (entry 𝓜 s' x.owner x.number) ≡ Val v x.caller
-      go Unused i q t = let z : ◌≡◌ {A = ℕ} 0 1 = cc in absurd (omega arith)
-      go (Live d n b) i q t =
-          let lv : IsLive (entry 𝓜 s x.owner x.number) = record { cell = d; weight = n; tainted = b; is = i } in
+      go None i q t = let z : ◌≡◌ {A = ℕ} 0 1 = cc in absurd (omega arith)
+      go (Some l) i q t =
+          let lv : IsLive (entry 𝓜 s x.owner x.number) = record { cell = l.cell; weight = l.weight; tainted = l.tainted; is = i } in
           let l' = after_live x.owner x.number lv t in
           let r = live_exported x.owner x.number lv in
-          ap (entry_end 𝓜 s' x.owner) l'.2 ∙ value (end_kept x.owner d r.0 r.1)
+          ap (entry_end 𝓜 s' x.owner) l'.2 ∙ value (end_kept x.owner l.cell r.0 r.1)
         where
-          value : EndKept x.owner d → end_kind 𝓜 s' x.owner d ≡ Val v x.caller
+          value : EndKept x.owner l.cell → end_kind 𝓜 s' x.owner l.cell ≡ Val v x.caller
           value (as_before p w) = w v x.caller q
           value (newly_bound y caller j p w) =
-              let was = end_self 𝓜 s x.owner d (Var caller) j refl in
+              let was = end_self 𝓜 s x.owner l.cell (Var caller) j refl in
               let z : ◌≡◌ {A = ℕ} 0 1 = cc was in
               absurd (omega arith)

@@ -7,10 +7,8 @@ use mathlib.Core.Path.{◌≡◌, refl, ap, ◌∙◌}
 use mathlib.Core.Bool.{Bool, true, false, cond}
 use Rattle.numbers.specs.Below.{walk_meets}
 use Rattle.numbers.specs.Tests.{absurd_bool}
-use Rattle.tables.specs.declared.Holding.{Holding}
-use Rattle.tables.specs.declared.Holding.TheVariants.{Unused, Live}
 use Rattle.tables.specs.Machine.{Machine, Tables}
-use Rattle.tables.specs.Parts.{Place, place, named_by, is_at}
+use Rattle.tables.specs.Parts.{Holding, live, Place, place, named_by, is_at}
 use Rattle.tables.specs.Look.{entry, end_kind}
 use Rattle.states.specs.Chains.{through, follow, ahead, EndsIn}
 use Rattle.states.proofs.Named.{eq_both, both_eq, nowhere_at, IsLive}
@@ -22,7 +20,7 @@ ahead_nowhere 𝓜 s zero = refl
 ahead_nowhere 𝓜 s (suc n) = ahead_nowhere 𝓜 s n
 
 -- a live entry, taken apart, with what a step from it says
-pub follow_live : (𝓜 : Machine) (s : Tables) (a b : ℕ) {d n : ℕ} {t : Bool} → entry 𝓜 s a b ≡ Live d n t → follow 𝓜 s (place a b) ≡ named_by (end_kind 𝓜 s a d)
+pub follow_live : (𝓜 : Machine) (s : Tables) (a b : ℕ) {d n : ℕ} {t : Bool} → entry 𝓜 s a b ≡ live d n t → follow 𝓜 s (place a b) ≡ named_by (end_kind 𝓜 s a d)
 unfolding follow
 follow_live 𝓜 s a b q = ap (through 𝓜 s a) q
 
@@ -32,8 +30,8 @@ unfolding follow
 follow_from 𝓜 s a b o e q = go (entry 𝓜 s a b) refl q
   where
     go : (x : Holding) → entry 𝓜 s a b ≡ x → through 𝓜 s a x ≡ place o e → IsLive (entry 𝓜 s a b)
-    go Unused i p = nowhere_at p
-    go (Live d n t) i p = record { cell = d; weight = n; tainted = t; is = i }
+    go None i p = nowhere_at p
+    go (Some l) i p = record { cell = l.cell; weight = l.weight; tainted = l.tainted; is = i }
 
 -- one walk after the other
 pub ahead_add : (𝓜 : Machine) (s : Tables) (n k : ℕ) (p : Place) → ahead 𝓜 s (n + k) p ≡ ahead 𝓜 s k (ahead 𝓜 s n p)

@@ -3,17 +3,15 @@
 use Rattle.std.specs.Prelude.{ℕ, zero, suc, ◌≡◌, true, ◌||◌, None, Some}
 use Rattle.tables.specs.declared.Kind.{Kind}
 use Rattle.tables.specs.declared.Kind.TheVariants.{Free, Val}
-use Rattle.tables.specs.declared.Holding.{Holding}
-use Rattle.tables.specs.declared.Holding.TheVariants.{Unused, Live}
 use Rattle.tables.specs.Machine.{Machine, Tables}
-use Rattle.tables.specs.Parts.{Place, place, is_var, is_val, named_by, entry_names}
+use Rattle.tables.specs.Parts.{Holding, Place, place, is_var, is_val, named_by, entry_names}
 use Rattle.tables.specs.Look.{cell, entry, end_kind}
 
 module _ (𝓜 : Machine) (s : Tables) where
   -- the end of the cell that a live entry of worker o names; nothing for a free entry
   abbrev pub entry_end : ℕ → Holding → Kind
-  entry_end o Unused = Free
-  entry_end o (Live c n t) = end_kind 𝓜 s o c
+  entry_end o None = Free
+  entry_end o (Some l) = end_kind 𝓜 s o l.cell
 
   -- the reference that this end is
   abbrev pub through : ℕ → Holding → Place

@@ -5,11 +5,10 @@ use Rattle.numbers.specs.Below.{bit}
 use Rattle.tables.specs.declared.Status.TheVariants.{Idle}
 use Rattle.tables.specs.declared.Kind.{Kind}
 use Rattle.tables.specs.declared.Kind.TheVariants.{Ref, Ex}
-use Rattle.tables.specs.declared.Holding.{Holding}
 use Rattle.tables.specs.declared.Message.{Message}
 use Rattle.tables.specs.declared.Message.TheVariants.{Empty, Reference, Release, Read, Answer, Ask, Supply}
 use Rattle.tables.specs.Machine.{Machine, Tables, with_cells, with_entries, with_slots}
-use Rattle.tables.specs.Parts.{place, on_ex, is_free, is_var, is_val, is_reading, is_asking, ex_names, is_live, is_tainted, entry_names, entry_weight, goes_to, cell_of}
+use Rattle.tables.specs.Parts.{Holding, place, on_ex, is_free, is_var, is_val, is_reading, is_asking, ex_names, is_live, is_tainted, entry_names, entry_weight, goes_to, cell_of}
 use Rattle.tables.specs.Look.{cell, entry, safe, exported, busy, booked, free_cells, message}
 use Rattle.states.specs.Chains.{follow}
 use Rattle.states.specs.Sound.{reads_for, asks_for, cell_holds, message_holds}

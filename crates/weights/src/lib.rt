@@ -7,7 +7,7 @@ ghost use Rattle.tables.specs.Machine.{eight, tables};
 ghost use Rattle.tables.specs.Parts.{on_ex};
 ghost use Rattle.states.specs.Sound.{message_holds, entry_weighs, point5, point6};
 
-use tables::{ENTRY_ROW, Holding, Kind, Message, State};
+use tables::{ENTRY_ROW, Holding, Kind, Live, Message, State};
 
 // ---- point 5
 
@@ -70,8 +70,8 @@ fn entry_weighs(s: &State, o: u8, e: u8, x: Holding) -> bool
     ensures { result ≡ entry_weighs eight (tables s.now) o e x }
 {
     match x {
-        Holding::Unused => true,
-        Holding::Live { weight, .. } => {
+        None => true,
+        Some(Live { weight, .. }) => {
             let in_cells = total(&s.cells, |x| cell_holds(o, e, x.kind));
             let in_slots = total(&s.slots, |x| message_holds(s, o, e, x.message));
             u64::from(weight) == in_cells + in_slots

@@ -8,13 +8,13 @@ use Rattle.weights.proofs.entry_weighs.Goals as goal
 pub overflow_add-result : goal.overflow_add-result
 overflow_add-result c = omega (arith, c.total-in_cells.ensures.small, c.total-in_slots.ensures.small)
 
-pub returns-in-Live : goal.returns-in-Live
+pub returns-in-Some : goal.returns-in-Some
 unfolding held
-returns-in-Live c =
+returns-in-Some c =
     let s = tables c.args.s.now in
     let o = c.args.o in
     let e = c.args.e in
     let cells = c.total-in_cells.ensures.value (λ x. cell_holds eight s o e x.kind) (λ x n p. search rules) in
     let slots = c.total-in_slots.ensures.value (λ x. message_holds eight s o e x.message) (λ x n p. search rules) in
     let sum : c.total-in_cells.result + c.total-in_slots.result ≡ held eight s o e = ap₂ ◌+◌ (cells ∙ summed _ _) (slots ∙ summed _ _) in
-    rw (c.in-Live.is, c.from.ensures, sum)
+    rw (c.in-Some.is, c.from.ensures, sum)
