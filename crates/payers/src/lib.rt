@@ -1,131 +1,97 @@
-// Who pays for each cell's time (W-202): the way on from each cell, along its end and its reference, as tables that are made once, and the walk by
-// them.
+// Who pays for each cell's time (W-202): the way on from each cell, along its end and its reference, as a table that is made once, and the walk by
+// it.
 #![tactic(auto)]
 
 ghost use Rattle.std.specs.Prelude.{◌≡◌, ◌<◌};
-ghost use Rattle.tables.specs.Parts.{caller_of};
 ghost use Rattle.tables.specs.Machine.{eight, tables};
-ghost use Rattle.payers.specs.Ways.{table_place, led_to, next_cell, ways_of, pays_by, payers_of};
+ghost use Rattle.payers.specs.Ways.{payer_of, led_to, way_on, end_at, ways_of, pays_by, payers_of};
 
-use tables::{ALL_CELLS, CELL_ROW, CELLS, EntryName, Holding, Kind, State, WORKERS, Live};
+use std::array;
+use tables::{ALL_CELLS, CELL_ROW, CELLS, Holding, Kind, Live, State, WORKERS};
 
-// No caller, and no cell: past the last of each.
+// No caller: past the last.
 pub const NOBODY: u16 = 256;
 
-const NO_CELL: u16 = ALL_CELLS as u16;
-
-// The way on from each cell, cell c of worker w at w * CELL_ROW + c: the caller of a VAR or a VAL that is its end, and the cell that an EX leads to
-// that is its end.
-#[derive(Drop)]
-pub struct Ways {
-    pub caller: [u16; ALL_CELLS],
-    pub next: [u16; ALL_CELLS],
+// The way on from a cell's end: a VAR or a VAL is paid for by its caller, an EX leads to another cell, whose place in the table this is.
+#[derive(Clone, Copy)]
+enum Way {
+    Neither,
+    PaidBy(u8),
+    LeadsTo(u8),
 }
 
-// The caller of a VAR or a VAL.
-fn caller_of(k: Kind) -> u16
-    ensures { result ≡ caller_of k }
+// The ways on from all cells, cell c of worker w at w * CELL_ROW + c.
+type Ways = [Way; ALL_CELLS];
+
+// Who pays at the end of a walk.
+fn payer_of(way: Way) -> u16
+    ensures { result ≡ payer_of way }
 {
-    match k {
-        Kind::Free => NOBODY,
-        Kind::Var { caller } => caller as u16,
-        Kind::Val { caller, .. } => caller as u16,
-        Kind::Ref(_) => NOBODY,
-        Kind::Ex { .. } => NOBODY,
+    match way {
+        Way::PaidBy(caller) => u16::from(caller),
+        _ => NOBODY,
     }
 }
 
-// The place of the cell c of worker w in the table.
-#[tactic(auto, unfolding(crate::specs::Ways::table_place))]
-fn table_place(w: u8, c: u8) -> u16
-    ensures { result ≡ table_place eight w c }
-{
-    if WORKERS <= w {
-        return NO_CELL;
-    }
-    if CELLS <= c {
-        return NO_CELL;
-    }
-    w as u16 * CELLS as u16 + c as u16
-}
-
-// The cell that an entry of worker w names.
-fn led_to(w: u8, x: Holding) -> u16
+// The way on by an entry of worker w that holds x, to the cell that it names.
+fn led_to(w: u8, x: Holding) -> Way
     ensures { result ≡ led_to eight w x }
 {
     match x {
-        None => NO_CELL,
-        Some(Live { cell, .. }) => table_place(w, cell),
+        Some(Live { cell, .. }) if w < WORKERS && cell < CELLS => {
+            Way::LeadsTo(w * CELLS + cell)
+        }
+        _ => Way::Neither,
     }
 }
 
-// The cell that the entry at the place p names, where it holds x.
-fn next_cell(p: Option<EntryName>, x: Holding) -> u16
-    ensures { result ≡ next_cell eight p x }
+// The way on from an end that holds k.
+fn way_on(s: &State, k: Kind) -> Way
+    ensures { result ≡ way_on eight (tables s.now) k }
 {
-    match p {
-        None => NO_CELL,
-        Some(EntryName { owner, .. }) => led_to(owner, x),
+    match k {
+        Kind::Var { caller } => Way::PaidBy(caller),
+        Kind::Val { caller, .. } => Way::PaidBy(caller),
+        Kind::Ex { owner, entry, .. } => led_to(owner, lookups::entry_at(&s.entries, owner, entry)),
+        _ => Way::Neither,
     }
+}
+
+// The way on from the cell at the place i of the table.
+fn way_from(s: &State, i: usize) -> Way
+    requires { i < 256 }
+    ensures { result ≡ way_on eight (tables s.now) (end_at eight (tables s.now) i) }
+{
+    let seen = lookups::see(&s.cells, (i / CELL_ROW) as u8, (i % CELL_ROW) as u8);
+    way_on(s, seen.ending)
 }
 
 // The ways on from all cells.
-fn ways_of(s: State) -> Ways
-    ensures { result ≡ ways_of eight (tables s) }
+fn ways_of(s: &State) -> Ways
+    ensures { result ≡ ways_of eight (tables s.now) }
 {
-    let mut t = Ways {
-        caller: [NOBODY; ALL_CELLS],
-        next: [NO_CELL; ALL_CELLS],
-    };
-    for i in 0..ALL_CELLS {
-        let x = s.cells[i];
-        let k = x.kind;
-        let w = (i / CELL_ROW) as u8;
-        let c = (i % CELL_ROW) as u8;
-        let d = parts::end_from(k, c);
-        let j = places::cell_index(w, d);
-        let y = s.cells[j];
-        let far = y.kind;
-        let end = places::cell_seen(w, d, far);
-        let p = parts::named_by(end);
-        let e = places::place_index(p);
-        let z = s.entries[e];
-        let there = z.holding;
-        let h = places::place_seen(p, there);
-        t.caller[i] = caller_of(end);
-        t.next[i] = next_cell(p, h);
-    }
-    t
+    array::from_fn(|i| way_from(s, i))
 }
 
 // Who pays from the cell at `from` on, where at most n references are followed.
-fn pays(caller: &[u16; ALL_CELLS], next: &[u16; ALL_CELLS], from: usize, n: u8) -> u16
-    requires { from < 256 }
-    ensures { result ≡ pays_by 256 caller.now next.now n from }
+fn pays(ways: &Ways, from: u8, n: u8) -> u16
+    ensures { result ≡ pays_by ways.now n from }
 {
     let mut at = from;
-    for i in 0..n {
-        let to = next[at];
-        if NO_CELL <= to {
-            return caller[at];
-        }
-        at = to as usize;
+    for _i in 0..n {
+        let Way::LeadsTo(next) = ways[at as usize] else {
+            break;
+        };
+        at = next;
     }
-    caller[at]
+    payer_of(ways[at as usize])
 }
 
 // Who pays for each cell.
-pub fn payers_of(s: State) -> [u16; ALL_CELLS]
-    ensures { result ≡ payers_of eight (tables s) }
+pub fn payers_of(s: &State) -> [u16; ALL_CELLS]
+    ensures { result ≡ payers_of eight (tables s.now) }
 {
-    let t = ways_of(s);
-    let caller = t.caller;
-    let next = t.next;
-    let entries = s.entries;
-    let n = searches::live_entries(entries);
-    let mut r = [NOBODY; ALL_CELLS];
-    for i in 0..ALL_CELLS {
-        r[i] = pays(&caller, &next, i, n);
-    }
-    r
+    let ways = ways_of(s);
+    let n = searches::live_entries(&s.entries);
+    array::from_fn(|i| pays(&ways, i as u8, n))
 }

@@ -1,2 +1,2 @@
--- Look-ups for a loop that reads the state itself.
+-- Where a table of all cells is read.
 pub mod Places

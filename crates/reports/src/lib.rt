@@ -90,7 +90,7 @@ fn reported(s: &State, n: usize) -> Outcome
 fn opened(s: &State, n: usize) -> Books
     ensures { result ≡ opened_of eight (tables s.now) n }
 {
-    let payers = payers::payers_of(*s);
+    let payers = payers::payers_of(s);
     let totals = [0i64; CALLERS];
     Books {
         outcome: reported(s, n),

@@ -1,12 +1,15 @@
--- `payers::pays` meets its contract: a walk by the tables.
+-- `payers::pays` meets its contract: a walk by the table.
+use Rattle.std.proofs.Common.{◌∙◌}
 use Rattle.payers.specs.Ways.{pays_on, pays_no_further, pays_end}
 use Rattle.payers.proofs.pays.Goals as goal
-
-pub returns-then-to-ge-NO_CELL : goal.returns-then-to-ge-NO_CELL
-returns-then-to-ge-NO_CELL c = pays_no_further c.loop-i.invariant c.loop-i-test.true c.if-to-ge-NO_CELL.true
+use Rattle.payers.proofs.pays.Goals.{else-loop-i-test, then-loop-i-test+in_default}
 
 pub loop-i-preserved : goal.loop-i-preserved
-loop-i-preserved c = pays_on c.loop-i.invariant c.loop-i-test.true c.if-to-ge-NO_CELL.false
+loop-i-preserved c = pays_on c.loop-i.invariant c.loop-i-test.true c.in-LeadsTo.is
 
 pub returns : goal.returns
-returns c = pays_end c.loop-i.invariant c.loop-i-test.false
+returns c =
+    elim c.loop-i-test.branch [
+      | else-loop-i-test w ↦ c.payer_of.ensures ∙ pays_end c.loop-i.invariant w.loop-i-test.false
+      | then-loop-i-test+in_default w ↦ c.payer_of.ensures ∙ pays_no_further c.loop-i.invariant w.loop-i-test.true w.in_default.not-LeadsTo
+    ]

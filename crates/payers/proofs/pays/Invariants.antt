@@ -1,6 +1,6 @@
--- `payers::pays` meets its contract: a walk by the tables.
+-- The loop of `payers::pays`: how far it has come.
 use Rattle.payers.specs.Ways.{pays_by, Following}
 use Rattle.payers.proofs.pays.Given as goal
 
 abbrev pub invariant-loop-i : goal.invariant-loop-i
-invariant-loop-i l = Following 256 l.fn.caller l.fn.next l.fn.n l.i l.at (pays_by 256 l.fn.caller l.fn.next l.fn.n l.fn.from)
+invariant-loop-i l = Following l.ways l.n l._i l.at (pays_by l.ways l.n l.fn.from)
