@@ -2,6 +2,7 @@
 -- are equal. `Post` is the contract as Rattle reads it from the source: what is owed of the arguments, the result and the parameters at exit.
 -- Assumes nothing.
 use mathlib.Core.Path.{◌≡◌, sym, ◌∙◌}
+use contract.Lifetimes.{Lfts}
 use Rattle.sound.proofs.is_sound.Reads as is_sound
 use Rattle.sound.proofs.first_broken.Reads as first_broken
 use Rattle.quiet.proofs.start.Reads as start
@@ -31,11 +32,11 @@ OneOutcomeAndBuffer {A} {R} {E} left meets =
 pub one : {R : Type 0} {x y z : R} → x ≡ z → y ≡ z → x ≡ y
 one p q = p ∙ sym q
 
-pub is_sound_one : OneOutcome (is_sound.Post tt)
-is_sound_one a x y e f p q = one p q
+pub is_sound_one : (κs : Lfts 1) → OneOutcome (is_sound.Post κs)
+is_sound_one κs a x y e f p q = one p q
 
-pub first_broken_one : OneOutcome (first_broken.Post tt)
-first_broken_one a x y e f p q = one p q
+pub first_broken_one : (κs : Lfts 1) → OneOutcome (first_broken.Post κs)
+first_broken_one κs a x y e f p q = one p q
 
 pub start_one : OneOutcome (start.Post tt)
 start_one a x y e f p q = one p q

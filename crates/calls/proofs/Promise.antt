@@ -16,9 +16,8 @@ use Rattle.tables.specs.declared.Call.TheVariants.{Start, New, Set, Bind, Export
 use Rattle.tables.specs.declared.Status.TheVariants.{Reading, Known}
 use Rattle.tables.specs.declared.Kind.TheVariants.{Var, Val, Ex}
 use Rattle.tables.specs.declared.Outcome.TheVariants.{Done}
-use Rattle.tables.specs.declared.Place.TheVariants.{At}
 use Rattle.tables.specs.Machine.{Tables, eight, tables}
-use Rattle.tables.specs.Parts.{is_free, caller_of, is_known, ex_names, is_live, entry_weight}
+use Rattle.tables.specs.Parts.{place, is_free, caller_of, is_known, ex_names, is_live, entry_weight}
 use Rattle.tables.specs.Look.{cell, entry, end_kind, message, put_cell}
 use Rattle.rules.specs.Answers.{made, reply, succeeds, value_of, checked}
 use Rattle.states.specs.Sound.{held, sound}
@@ -117,9 +116,9 @@ pub record Promised (s : State) : Type 0 where
       → ((n : ℕ) → AtRest eight (tables (at n)) ⊎ Taken (at n) (slot n) (at (suc n)))
       → (n : ℕ) × (n ≤ value_of b.outcome) × AtRest eight (tables (at n))
   pub brought : (ks : List ℕ) (n : ℕ) (t : State) → DeliveredByReplies s ks n t → AtRest eight (tables t)
-      → (w c o e m v : ℕ) (a : Bool) → cell eight (tables s) w c ≡ Ex o e m Reading a → EndsIn eight (tables s) (At o e) v
+      → (w c o e m v : ℕ) (a : Bool) → cell eight (tables s) w c ≡ Ex o e m Reading a → EndsIn eight (tables s) (place o e) v
       → KnownWith eight (tables t) w c o e v
-  pub known_is_true : (w c o e n v : ℕ) (a : Bool) → cell eight (tables s) w c ≡ Ex o e n (Known v) a → EndsIn eight (tables s) (At o e) v
+  pub known_is_true : (w c o e n v : ℕ) (a : Bool) → cell eight (tables s) w c ≡ Ex o e n (Known v) a → EndsIn eight (tables s) (place o e) v
   pub refers_to_live : (o e : ℕ)
       → ((w c : ℕ) → ex_names o e (cell eight (tables s) w c) ≡ true → is_live (entry eight (tables s) o e) ≡ true)
       × ((k : ℕ) → message_names o e (message (tables s) k) ≡ true → is_live (entry eight (tables s) o e) ≡ true)

@@ -2,12 +2,12 @@
 #![tactic(auto)]
 
 ghost use Rattle.std.specs.Prelude.{true, false, ◌≡◌};
-ghost use Rattle.tables.specs.declared.Holding.TheVariants.{Live};
 ghost use Rattle.tables.specs.declared.Kind.TheVariants.{Ex};
+ghost use Rattle.tables.specs.Parts.{live};
 ghost use Rattle.tables.specs.declared.Message.TheVariants.{Reference, Release, Read, Answer, Ask, Supply};
 ghost use Rattle.tables.specs.declared.Status.TheVariants.{Idle};
 
-use tables::{Holding, Kind, Message, Status};
+use tables::{Holding, Kind, Live, Message, Status};
 
 // ---- cells
 
@@ -33,23 +33,23 @@ pub fn idle(owner: u8, entry: u8, weight: u32) -> Kind
 // ---- entries
 
 pub fn live(cell: u8, weight: u32) -> Holding
-    ensures { result ≡ Live cell weight false }
+    ensures { result ≡ live cell weight false }
 {
-    Holding::Live {
+    Some(Live {
         cell,
         weight,
         tainted: false,
-    }
+    })
 }
 
 pub fn tainted(cell: u8, weight: u32) -> Holding
-    ensures { result ≡ Live cell weight true }
+    ensures { result ≡ live cell weight true }
 {
-    Holding::Live {
+    Some(Live {
         cell,
         weight,
         tainted: true,
-    }
+    })
 }
 
 // ---- messages

@@ -3,96 +3,59 @@
 
 ghost use Rattle.std.specs.Prelude.{◌≡◌};
 ghost use Rattle.numbers.specs.Below.{walk_meets};
-ghost use Rattle.tables.specs.declared.Place.TheVariants.{At};
-ghost use Rattle.tables.specs.Machine.{eight, tables};
+ghost use Rattle.tables.specs.Machine.{Tables, eight, tables};
 ghost use Rattle.tables.specs.Parts.{is_at};
-ghost use Rattle.chains.specs.Hops.{Followed, next_seen, step_by};
+ghost use Rattle.states.specs.Chains.{through};
+ghost use Rattle.states.specs.Sound.{reached};
+ghost use Rattle.chains.specs.Hops.{Followed, step_by};
 
-use tables::{ALL_ENTRIES, ENTRIES, ENTRY_ROW, Place, State, WORKERS};
+use std::array;
+use tables::{ALL_ENTRIES, ENTRIES, ENTRY_ROW, EntryName, Holding, Live, State, WORKERS};
 
-// Where one step leads.
-#[derive(Clone, Copy)]
-pub struct Hop {
-    pub next: Place,
-}
+// Where the step from each entry leads, entry e of worker w at w * ENTRY_ROW + e.
+pub type Hops = [Option<EntryName>; ALL_ENTRIES];
 
-// The hops of all entries, entry e of worker w at w * ENTRY_ROW + e.
-#[derive(Clone, Copy)]
-pub struct Hops {
-    pub hops: [Hop; ALL_ENTRIES],
-}
-
-// The step from each entry, to what the end of its cell names. A free entry leads nowhere.
-pub fn hops_of(s: State) -> Hops
-    ensures { Followed eight (tables s) result.hops 128 }
+// The step from an entry of worker w that holds x, to what the end of its cell names. A free entry leads nowhere.
+#[tactic(auto, unfolding(tables::specs::Look::end, tables::specs::Look::end_kind))]
+fn hop(s: &State, w: u8, x: Holding) -> Option<EntryName>
+    ensures { result ≡ through eight (tables s.now) w x }
 {
-    let mut t = Hops {
-        hops: [Hop {
-            next: Place::Nowhere,
-        }; ALL_ENTRIES],
-    };
-    for i in 0..ALL_ENTRIES {
-        let x = s.entries[i];
-        let holding = x.holding;
-        if parts::is_unused(holding) {
-            t.hops[i] = Hop {
-                next: Place::Nowhere,
-            };
-            continue;
-        }
-        let w = (i / ENTRY_ROW) as u8;
-        let c = parts::cell_of(holding);
-        let j = places::cell_index(w, c);
-        let y = s.cells[j];
-        let there = y.kind;
-        let k = places::cell_seen(w, c, there);
-        let d = parts::end_from(k, c);
-        let g = places::cell_index(w, d);
-        let z = s.cells[g];
-        let far = z.kind;
-        let next = parts::named_by(places::cell_seen(w, d, far));
-        t.hops[i] = Hop { next: next };
+    match x {
+        None => None,
+        Some(Live { cell, .. }) => parts::named_by(lookups::see(&s.cells, w, cell).ending),
     }
-    t
 }
 
-#[tactic(auto, unfolding(crate::specs::Hops::next_seen))]
-fn next_at(o: u8, e: u8, next: Place) -> Place
-    ensures { result ≡ next_seen eight (At o e) next }
+// The steps from all entries.
+pub fn hops_of(s: &State) -> Hops
+    ensures { Followed eight (tables s.now) result 128 }
 {
-    if WORKERS <= o {
-        return Place::Nowhere;
-    }
-    if ENTRIES <= e {
-        return Place::Nowhere;
-    }
-    next
+    array::from_fn(|i| hop(s, (i / ENTRY_ROW) as u8, s.entries[i].holding))
 }
 
-// The place after p, where `next` is read in the table of hops.
-#[tactic(auto, unfolding(crate::specs::Hops::next_seen))]
-fn next_seen(p: Place, next: Place) -> Place
-    ensures { result ≡ next_seen eight p next }
+// Where one step leads from a place.
+#[tactic(auto, unfolding(crate::specs::Hops::step_by))]
+fn step(hops: &Hops, at: Option<EntryName>) -> Option<EntryName>
+    ensures { result ≡ step_by eight hops.now at }
 {
-    match p {
-        Place::Nowhere => Place::Nowhere,
-        Place::At { owner, entry } => next_at(owner, entry, next),
+    let EntryName { owner, entry } = at?;
+    if WORKERS <= owner || ENTRIES <= entry {
+        return None;
     }
+    hops[owner as usize * ENTRY_ROW + entry as usize]
 }
 
-// The entry e of worker o is at the place from, or reached from there.
-pub fn reached(t: Hops, from: Place, o: u8, e: u8) -> bool
-    ensures { result ≡ walk_meets (is_at o e) (step_by eight t.hops) 128 from }
+// The entry `to` is at the place `from`, or reached from there.
+pub fn reached(hops: &Hops, from: Option<EntryName>, to: EntryName) -> bool
+    ensures by_table { result ≡ walk_meets (is_at to.owner to.entry) (step_by eight hops.now) 128 from }
+    ensures by_state { (t : Tables) → Followed eight t hops.now 128 → result ≡ reached eight t from to.owner to.entry }
 {
     let mut at = from;
-    for i in 0..ALL_ENTRIES {
-        if parts::is_at(o, e, at) {
+    for _i in 0..ALL_ENTRIES {
+        if at == Some(to) {
             return true;
         }
-        let j = places::place_index(at);
-        let x = t.hops[j];
-        let next = x.next;
-        at = next_seen(at, next);
+        at = step(hops, at);
     }
     false
 }

@@ -1,5 +1,5 @@
 -- In a sound state no weight passes the ceiling, so that none is lost where the code adds two. Assumes nothing.
-use Rattle.std.specs.Prelude.{ℕ, ◌+◌, ◌*◌, ◌/◌, ◌%◌, ◌≤◌, ◌≡◌, Bool, ◌&&◌, ◌||◌, cond, List, length, get_or}
+use Rattle.std.specs.Prelude.{None, Some, ℕ, ◌+◌, ◌*◌, ◌/◌, ◌%◌, ◌≤◌, ◌≡◌, Bool, ◌&&◌, ◌||◌, cond, List, length, get_or}
 use native.Mathlib.Omega.{arith}
 use Rattle.std.proofs.Math.Bool.{true, false}
 use Rattle.std.proofs.Common.{⊎_elim}
@@ -11,12 +11,10 @@ use Rattle.numbers.specs.ListLaws.{each_at}
 use Rattle.numbers.specs.Tests.{and_l, and_r, or_else}
 use Rattle.tables.specs.declared.Kind.{Kind}
 use Rattle.tables.specs.declared.Kind.TheVariants.{Free, Var, Val, Ref, Ex}
-use Rattle.tables.specs.declared.Holding.{Holding}
-use Rattle.tables.specs.declared.Holding.TheVariants.{Unused, Live}
 use Rattle.tables.specs.declared.Message.{Message}
 use Rattle.tables.specs.declared.Message.TheVariants.{Empty, Reference, Release, Read, Answer, Ask, Supply}
 use Rattle.tables.specs.Machine.{Machine, Tables}
-use Rattle.tables.specs.Parts.{is_free, is_unused, ex_weight, entry_weight}
+use Rattle.tables.specs.Parts.{Holding, is_free, is_unused, ex_weight, entry_weight}
 use Rattle.tables.specs.Look.{kind_at, holding_at, cell, entry, message}
 use Rattle.states.specs.Sound.{each_cell, each_entry, each_message, worker_in, cell_in, entry_in, weight_in, kind_in_range, holding_in_range, message_in_range, cell_in_range, entry_in_range, point1, sound}
 use Rattle.tables.specs.Parts.{message_weight}
@@ -52,9 +50,9 @@ module _ (𝓜 : Machine) (s : Tables) where
   kind_weight (Ex o e n st a) h = and_r (worker_in 𝓜 s o && entry_in 𝓜 s e) (weight_in 𝓜 s n) h
 
   holding_weight : (x : Holding) → holding_in_range 𝓜 s x ≡ true → leb (entry_weight x) 𝓜.ceiling ≡ true
-  holding_weight Unused h = no_weight 𝓜
-  holding_weight (Live c n t) h =
-      and_r (cell_in 𝓜 s c) (weight_in 𝓜 s n) (and_l (cell_in 𝓜 s c && weight_in 𝓜 s n) (leb 1 n) h)
+  holding_weight None h = no_weight 𝓜
+  holding_weight (Some l) h =
+      and_r (cell_in 𝓜 s l.cell) (weight_in 𝓜 s l.weight) (and_l (cell_in 𝓜 s l.cell && weight_in 𝓜 s l.weight) (leb 1 l.weight) h)
 
   carried_weight : (m : Message) → message_in_range 𝓜 s m ≡ true → leb (message_weight m) 𝓜.ceiling ≡ true
   carried_weight Empty h = no_weight 𝓜
@@ -94,7 +92,7 @@ module _ (𝓜 : Machine) (s : Tables) (h : sound 𝓜 s ≡ true) where
   unfolding entry point1
   entry_weight_lem w e = go (ltb w 𝓜.workers && ltb e 𝓜.entries)
     where
-      go : (b : Bool) → entry_weight (cond b (holding_at s.entries (w * 𝓜.entries + e)) Unused) ≤ 𝓜.ceiling
+      go : (b : Bool) → entry_weight (cond b (holding_at s.entries (w * 𝓜.entries + e)) None) ≤ 𝓜.ceiling
       go true =
           leb-true _ _
           (anywhere (λ i x. entry_in_range 𝓜 s (i / 𝓜.entries) (i % 𝓜.entries) x.holding) (λ x. leb (entry_weight x.holding) 𝓜.ceiling) s.entries _

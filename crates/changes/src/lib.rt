@@ -15,8 +15,8 @@ ghost use Rattle.changes.specs.BelowCeiling.{added};
 
 use tables::{
     ALL_CELLS, ALL_ENTRIES, ALL_SLOTS, CEILING, Cell, Change, ENTRIES, Effect, Entry, EntryTable,
-    FIRST_WEIGHT, Holding, Kind, LAST_CALLER, Message, Outcome, Reply, Slot, SlotTable, State,
-    Status, Used,
+    FIRST_WEIGHT, Holding, Kind, LAST_CALLER, Live, Message, Outcome, Reply, Slot, SlotTable,
+    State, Status, Used,
 };
 
 // P workers, everything free.
@@ -27,9 +27,7 @@ pub fn all_free(p: u8) -> State
     State {
         p,
         cells: [Cell { kind: Kind::Free }; ALL_CELLS],
-        entries: [Entry {
-            holding: Holding::Unused,
-        }; ALL_ENTRIES],
+        entries: [Entry { holding: None }; ALL_ENTRIES],
         slots: [Slot {
             message: Message::Empty,
         }; ALL_SLOTS],
@@ -210,19 +208,19 @@ pub fn use_entry(entries: &EntryTable, w: u8, c: u8) -> Used
 
 // The entry that a cell c exported by location uses: made with this taint, or with 1,024 gained.
 #[tactic(auto, using(crate::specs::BelowCeiling::added_is))]
-fn gains(c: u8, taint: bool, mut x: Holding) -> Holding
+fn gains(c: u8, taint: bool, x: Holding) -> Holding
     ensures { entry_weight x ≤ 1048576 → result ≡ gains 1024 c taint x }
 {
-    match &mut x {
-        Holding::Unused => Holding::Live {
+    match x {
+        None => Some(Live {
             cell: c,
             weight: FIRST_WEIGHT,
             tainted: taint,
-        },
-        Holding::Live { weight, .. } => {
-            *weight = add_weights(*weight, FIRST_WEIGHT);
-            x
-        }
+        }),
+        Some(live) => Some(Live {
+            weight: add_weights(live.weight, FIRST_WEIGHT),
+            ..live
+        }),
     }
 }
 

@@ -82,7 +82,7 @@ fn try_deliver(s: &State, slot: u8) -> Result<Effect, Refusal>
 {
     let m = lookups::message_at(&s.slots, slot);
     let end = read_end(s, m);
-    delivery_refusals(sound::is_sound(*s), m, is_ready(m, end))?;
+    delivery_refusals(sound::is_sound(s), m, is_ready(m, end))?;
     Ok(deliver_message(s, slot, m, end))
 }
 

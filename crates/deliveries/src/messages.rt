@@ -13,22 +13,23 @@ ghost use Rattle.rules.specs.Refusals.{read_end};
 
 use changes::{add_weights, with_cell_and_message, with_entry_and_message};
 use tables::{
-    CEILING, CELLS, Change, Effect, FIRST_WEIGHT, Holding, Kind, Message, Outcome, State, Status,
+    CEILING, CELLS, Change, Effect, FIRST_WEIGHT, Holding, Kind, Live, Message, Outcome, State,
+    Status,
 };
 
 // ---- what becomes of an entry and of a cell
 
 // The weight is taken off the entry, which is freed at 0.
-fn taken_off(w: u32, mut x: Holding) -> Holding
+fn taken_off(w: u32, x: Holding) -> Holding
     ensures { result ≡ taken_off w x }
 {
-    if let Holding::Live { weight, .. } = &mut x {
-        if *weight <= w {
-            return Holding::Unused;
-        }
-        *weight -= w;
+    match x {
+        Some(live) if w < live.weight => Some(Live {
+            weight: live.weight - w,
+            ..live
+        }),
+        _ => None,
     }
-    x
 }
 
 // The weight joins the EX, or the cell becomes such an EX, idle.
@@ -81,13 +82,13 @@ fn supply_from(weight: u32) -> u32
 }
 
 // The entry that an Ask finds gains what it gives.
-fn grown(mut x: Holding) -> Holding
+fn grown(x: Holding) -> Holding
     ensures { result ≡ grown (min 1024 (1048576 - entry_weight x)) x }
 {
-    if let Holding::Live { weight, .. } = &mut x {
-        *weight += supply_from(*weight);
-    }
-    x
+    x.map(|live| Live {
+        weight: live.weight + supply_from(live.weight),
+        ..live
+    })
 }
 
 // The end of the cell that a live entry of worker o names.
@@ -95,8 +96,8 @@ fn entry_end(s: &State, o: u8, x: Holding) -> Kind
     ensures { result ≡ entry_end eight (tables s.now) o x }
 {
     match x {
-        Holding::Unused => Kind::Free,
-        Holding::Live { cell, .. } => lookups::see(&s.cells, o, cell).ending,
+        Some(live) => lookups::see(&s.cells, o, live.cell).ending,
+        None => Kind::Free,
     }
 }
 

@@ -1,8 +1,8 @@
 -- What chains of iterators compute, in the words of the rules: how many pass, the first that does, and a sum. Assumes nothing.
 use Rattle.std.specs.Prelude.{ℕ, zero, suc, ◌+◌, ◌≡◌, refl, Bool, true, false, cond, List, ◌∷◌, length, get_or}
-use Rattle.std.specs.List.{count_by, position_or_len}
+use Rattle.std.specs.List.{count_by, sum_by, position_or_len}
 use Rattle.std.proofs.Common.{arith, sym}
-use Rattle.std.proofs.lemmas.List.Recursion.{is_count_by, is_position_or_len}
+use Rattle.std.proofs.lemmas.List.Recursion.{is_sum_by, is_count_by, is_position_or_len}
 use Rattle.numbers.specs.Below.{bit, lowest_from, lowest}
 use Rattle.numbers.specs.Lists.{total}
 
@@ -33,3 +33,8 @@ module _ {A : Type 0} where
     where
       step : (x : A) (xs : List A) → lowest (length (x ∷ xs)) (λ k. p (get_or (x ∷ xs) k d)) ≡ cond (p x) 0 (1 + lowest (length xs) (λ k. p (get_or xs k d)))
       step x xs = rw (later (λ k. p (get_or (x ∷ xs) k d)) (length xs) 0) refl
+
+  -- a sum
+  pub summed : (f : A → ℕ) (l : List A) → sum_by f l ≡ total f l
+  unfolding total
+  summed f l = sym (is_sum_by (total f) f refl (λ x xs. refl) l)

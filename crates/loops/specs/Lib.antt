@@ -5,3 +5,4 @@ pub mod Filling
 pub mod Passing
 pub mod Walking
 pub mod Summing
+pub mod Every

@@ -3,135 +3,86 @@
 
 ghost use Rattle.std.specs.Prelude.{◌≡◌};
 ghost use Rattle.tables.specs.Machine.{eight, tables};
-ghost use Rattle.states.specs.Sound.{point2, point3};
-ghost use Rattle.names.specs.Names.{cell_names_seen, names_nothing, safe_seen, entry_names_seen};
+ghost use Rattle.states.specs.Sound.{cell_names, exes_naming, point2, entry_names_cell, entries_naming, var_val_or_safe, point3};
 
-use numbers::{bit_of, both, either};
-use tables::{ALL_CELLS, ALL_ENTRIES, CELL_ROW, ENTRY_ROW, Holding, Kind, State};
+use tables::{CELL_ROW, ENTRY_ROW, Holding, Kind, Live, State};
 
 // ---- point 2
 
-// A cell of worker w that holds k names what it may: `end` is what a REF names, `entry` what an EX names, and `twins` EX name that entry.
-fn cell_names(w: u8, k: Kind, end: Kind, entry: Holding, twins: u8) -> bool
-    ensures { result ≡ cell_names_seen w end entry twins k }
+// How many EX of worker w name the entry e of worker o.
+fn exes_naming(s: &State, w: u8, o: u8, e: u8) -> u8
+    ensures { result ≡ exes_naming eight (tables s.now) w o e }
+{
+    rows::count(&s.cells, w, |x| parts::ex_names(o, e, x.kind))
+}
+
+// A cell of worker w that holds k names what it may.
+fn cell_names(s: &State, w: u8, k: Kind) -> bool
+    ensures { result ≡ cell_names eight (tables s.now) w 0 k }
 {
     match k {
-        Kind::Free => true,
-        Kind::Var { .. } => true,
-        Kind::Val { .. } => true,
-        Kind::Ref(_) => parts::is_ex(end),
-        Kind::Ex { owner, weight, .. } => {
-            let live = parts::is_live(entry);
-            both(both(both(!(owner == w), live), 1 <= weight), twins <= 1)
+        Kind::Ref(c) => parts::is_ex(lookups::cell_at(&s.cells, w, c)),
+        Kind::Ex {
+            owner,
+            entry,
+            weight,
+            ..
+        } => {
+            owner != w
+                && parts::is_live(lookups::entry_at(&s.entries, owner, entry))
+                && 1 <= weight
+                && exes_naming(s, w, owner, entry) <= 1
         }
+        _ => true,
     }
 }
 
-// A cell that holds k names no cell and no entry.
-fn names_nothing(k: Kind) -> bool
-    ensures { result ≡ names_nothing k }
+pub fn point_2(s: &State) -> bool
+    ensures { result ≡ point2 eight (tables s.now) }
 {
-    match k {
-        Kind::Free => true,
-        Kind::Var { .. } => true,
-        Kind::Val { .. } => true,
-        Kind::Ref(_) => false,
-        Kind::Ex { .. } => false,
-    }
-}
-
-pub fn point_2(s: State) -> bool
-    ensures { result ≡ point2 eight (tables s) }
-{
-    let mut good = true;
-    for i in 0..ALL_CELLS {
-        let x = s.cells[i];
-        let k = x.kind;
-        if names_nothing(k) {
-            continue;
-        }
-        let w = (i / CELL_ROW) as u8;
-        let d = parts::end_from(k, 0);
-        let j = places::cell_index(w, d);
-        let y = s.cells[j];
-        let there = y.kind;
-        let at = parts::named_by(k);
-        let h = places::place_index(at);
-        let z = s.entries[h];
-        let holding = z.holding;
-        let mut twins: u8 = 0;
-        for c in 0..CELL_ROW {
-            let other = s.cells[i / CELL_ROW * CELL_ROW + c];
-            let kind = other.kind;
-            twins += bit_of(places::names_place(at, kind));
-        }
-        let end = places::cell_seen(w, d, there);
-        let entry = places::place_seen(at, holding);
-        good = both(good, cell_names(w, k, end, entry, twins));
-    }
-    good
+    s.cells
+        .iter()
+        .enumerate()
+        .all(|(i, x)| cell_names(s, (i / CELL_ROW) as u8, x.kind))
 }
 
 // ---- point 3
 
-// An EX of worker w that holds k is safe, where the entry that it names holds `entry`.
-fn is_safe(w: u8, k: Kind, entry: Holding) -> bool
-    ensures { result ≡ safe_seen w entry k }
+// How many live entries of worker w name its cell c.
+fn entries_naming(s: &State, w: u8, c: u8) -> u8
+    ensures { result ≡ entries_naming eight (tables s.now) w c }
 {
-    match k {
-        Kind::Ex { owner, .. } => both(owner < w, !parts::is_tainted(entry)),
-        _ => false,
-    }
+    rows::count(&s.entries, w, |x| parts::entry_names(c, x.holding))
 }
 
-// An entry of worker w that holds x names a cell as it may: the cell holds k, its end `end`, and `twins` entries name it; an EX there
-// names an entry that holds `entry`.
-fn entry_names(w: u8, x: Holding, k: Kind, end: Kind, entry: Holding, twins: u8) -> bool
-    ensures { result ≡ entry_names_seen w k end entry twins x }
+// The end k of a cell of worker w is one that an untainted entry may have.
+fn is_var_val_or_safe(s: &State, w: u8, k: Kind) -> bool
+    ensures { result ≡ var_val_or_safe eight (tables s.now) w k }
+{
+    parts::is_var(k) || parts::is_val(k) || lookups::is_safe(&s.entries, w, k)
+}
+
+// An entry of worker w that holds x names a cell as it may.
+#[tactic(auto, unfolding(tables::specs::Look::end, tables::specs::Look::end_kind))]
+fn entry_names(s: &State, w: u8, x: Holding) -> bool
+    ensures { result ≡ entry_names_cell eight (tables s.now) w 0 x }
 {
     match x {
-        Holding::Unused => true,
-        Holding::Live { tainted, .. } => {
-            let plain = either(parts::is_var(end), parts::is_val(end));
-            let good = either(plain, is_safe(w, end, entry));
-            both(both(!parts::is_free(k), twins <= 1), either(tainted, good))
+        None => true,
+        Some(Live { cell, tainted, .. }) => {
+            let seen = lookups::see(&s.cells, w, cell);
+            !parts::is_free(seen.kind)
+                && entries_naming(s, w, cell) <= 1
+                && (tainted || is_var_val_or_safe(s, w, seen.ending))
         }
     }
 }
 
-pub fn point_3(s: State) -> bool
-    ensures { result ≡ point3 eight (tables s) }
+pub fn point_3(s: &State) -> bool
+    ensures { result ≡ point3 eight (tables s.now) }
 {
-    let mut good = true;
-    for i in 0..ALL_ENTRIES {
-        let x = s.entries[i];
-        let holding = x.holding;
-        if parts::is_unused(holding) {
-            continue;
-        }
-        let w = (i / ENTRY_ROW) as u8;
-        let c = parts::cell_of(holding);
-        let j = places::cell_index(w, c);
-        let y = s.cells[j];
-        let there = y.kind;
-        let k = places::cell_seen(w, c, there);
-        let d = parts::end_from(k, c);
-        let g = places::cell_index(w, d);
-        let z = s.cells[g];
-        let far = z.kind;
-        let end = places::cell_seen(w, d, far);
-        let at = parts::named_by(end);
-        let h = places::place_index(at);
-        let v = s.entries[h];
-        let beyond = v.holding;
-        let mut twins: u8 = 0;
-        for e in 0..ENTRY_ROW {
-            let other = s.entries[i / ENTRY_ROW * ENTRY_ROW + e];
-            let named = other.holding;
-            twins += bit_of(parts::entry_names(c, named));
-        }
-        let entry = places::place_seen(at, beyond);
-        good = both(good, entry_names(w, holding, k, end, entry, twins));
-    }
-    good
+    s.entries
+        .iter()
+        .enumerate()
+        .all(|(i, x)| entry_names(s, (i / ENTRY_ROW) as u8, x.holding))
 }

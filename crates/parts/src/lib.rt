@@ -2,132 +2,84 @@
 #![tactic(auto)]
 
 ghost use Rattle.std.specs.Prelude.{◌≡◌};
-ghost use Rattle.tables.specs.Parts.{is_free, is_var, is_val, is_ex, reading_of, known_of, is_reading, is_known, is_asking, ex_names, named_by, ex_weight, ref_names, end_from, is_at};
+ghost use Rattle.tables.specs.Parts.{is_free, is_var, is_val, is_ex, is_reading, is_known, is_asking, ex_names, named_by, ex_weight, ref_names, end_from};
 ghost use Rattle.tables.specs.Parts.{is_unused, is_live, is_tainted, entry_names, cell_of, entry_weight, is_empty, goes_to};
 
-use numbers::both;
-use tables::{Holding, Kind, Message, Place, Status};
+use tables::{EntryName, Holding, Kind, Message, Status};
 
 // ---- cells
 
 pub fn is_free(k: Kind) -> bool
     ensures { result ≡ is_free k }
 {
-    match k {
-        Kind::Free => true,
-        Kind::Var { .. } => false,
-        Kind::Val { .. } => false,
-        Kind::Ref(_) => false,
-        Kind::Ex { .. } => false,
-    }
+    matches!(k, Kind::Free)
 }
 
 pub fn is_var(k: Kind) -> bool
     ensures { result ≡ is_var k }
 {
-    match k {
-        Kind::Free => false,
-        Kind::Var { .. } => true,
-        Kind::Val { .. } => false,
-        Kind::Ref(_) => false,
-        Kind::Ex { .. } => false,
-    }
+    matches!(k, Kind::Var { .. })
 }
 
 pub fn is_val(k: Kind) -> bool
     ensures { result ≡ is_val k }
 {
-    match k {
-        Kind::Free => false,
-        Kind::Var { .. } => false,
-        Kind::Val { .. } => true,
-        Kind::Ref(_) => false,
-        Kind::Ex { .. } => false,
-    }
+    matches!(k, Kind::Val { .. })
 }
 
 pub fn is_ex(k: Kind) -> bool
     ensures { result ≡ is_ex k }
 {
-    match k {
-        Kind::Free => false,
-        Kind::Var { .. } => false,
-        Kind::Val { .. } => false,
-        Kind::Ref(_) => false,
-        Kind::Ex { .. } => true,
-    }
-}
-
-fn reading_of(st: Status) -> bool
-    ensures { result ≡ reading_of st }
-{
-    match st {
-        Status::Idle => false,
-        Status::Reading => true,
-        Status::Known(_) => false,
-    }
-}
-
-fn known_of(st: Status) -> bool
-    ensures { result ≡ known_of st }
-{
-    match st {
-        Status::Idle => false,
-        Status::Reading => false,
-        Status::Known(_) => true,
-    }
+    matches!(k, Kind::Ex { .. })
 }
 
 // An EX that is reading.
 pub fn is_reading(k: Kind) -> bool
     ensures { result ≡ is_reading k }
 {
-    match k {
-        Kind::Ex { status, .. } => reading_of(status),
-        _ => false,
-    }
+    matches!(
+        k,
+        Kind::Ex {
+            status: Status::Reading,
+            ..
+        }
+    )
 }
 
 // An EX that is known.
 pub fn is_known(k: Kind) -> bool
     ensures { result ≡ is_known k }
 {
-    match k {
-        Kind::Ex { status, .. } => known_of(status),
-        _ => false,
-    }
+    matches!(
+        k,
+        Kind::Ex {
+            status: Status::Known(_),
+            ..
+        }
+    )
 }
 
 // An EX that is asking.
 pub fn is_asking(k: Kind) -> bool
     ensures { result ≡ is_asking k }
 {
-    match k {
-        Kind::Ex { asking, .. } => asking,
-        _ => false,
-    }
+    matches!(k, Kind::Ex { asking: true, .. })
 }
 
 // An EX that names the entry e of worker o.
 pub fn ex_names(o: u8, e: u8, k: Kind) -> bool
     ensures { result ≡ ex_names o e k }
 {
-    match k {
-        Kind::Ex { owner, entry, .. } => both(owner == o, entry == e),
-        _ => false,
-    }
+    matches!(k, Kind::Ex { owner, entry, .. } if owner == o && entry == e)
 }
 
 // The entry that an EX names.
-pub fn named_by(k: Kind) -> Place
+pub fn named_by(k: Kind) -> Option<EntryName>
     ensures { result ≡ named_by k }
 {
     match k {
-        Kind::Ex { owner, entry, .. } => Place::At {
-            owner: owner,
-            entry: entry,
-        },
-        _ => Place::Nowhere,
+        Kind::Ex { owner, entry, .. } => Some(EntryName { owner, entry }),
+        _ => None,
     }
 }
 
@@ -145,13 +97,7 @@ pub fn ex_weight(k: Kind) -> u32
 pub fn ref_names(c: u8, k: Kind) -> bool
     ensures { result ≡ ref_names c k }
 {
-    match k {
-        Kind::Free => false,
-        Kind::Var { .. } => false,
-        Kind::Val { .. } => false,
-        Kind::Ref(d) => d == c,
-        Kind::Ex { .. } => false,
-    }
+    matches!(k, Kind::Ref(d) if d == c)
 }
 
 // The number of the end of the cell c, which holds k.
@@ -159,21 +105,8 @@ pub fn end_from(k: Kind, c: u8) -> u8
     ensures { result ≡ end_from k c }
 {
     match k {
-        Kind::Free => c,
-        Kind::Var { .. } => c,
-        Kind::Val { .. } => c,
         Kind::Ref(d) => d,
-        Kind::Ex { .. } => c,
-    }
-}
-
-// The entry e of worker o is at the place p.
-pub fn is_at(o: u8, e: u8, p: Place) -> bool
-    ensures { result ≡ is_at o e p }
-{
-    match p {
-        Place::Nowhere => false,
-        Place::At { owner, entry } => both(owner == o, entry == e),
+        _ => c,
     }
 }
 
@@ -182,58 +115,40 @@ pub fn is_at(o: u8, e: u8, p: Place) -> bool
 pub fn is_unused(x: Holding) -> bool
     ensures { result ≡ is_unused x }
 {
-    match x {
-        Holding::Unused => true,
-        Holding::Live { .. } => false,
-    }
+    x.is_none()
 }
 
 pub fn is_live(x: Holding) -> bool
     ensures { result ≡ is_live x }
 {
-    match x {
-        Holding::Unused => false,
-        Holding::Live { .. } => true,
-    }
+    x.is_some()
 }
 
 pub fn is_tainted(x: Holding) -> bool
     ensures { result ≡ is_tainted x }
 {
-    match x {
-        Holding::Unused => false,
-        Holding::Live { tainted, .. } => tainted,
-    }
+    x.is_some_and(|live| live.tainted)
 }
 
 // A live entry that names the cell c.
 pub fn entry_names(c: u8, x: Holding) -> bool
     ensures { result ≡ entry_names c x }
 {
-    match x {
-        Holding::Unused => false,
-        Holding::Live { cell, .. } => cell == c,
-    }
+    x.is_some_and(|live| live.cell == c)
 }
 
 // The cell that an entry names, 0 where it is free.
 pub fn cell_of(x: Holding) -> u8
     ensures { result ≡ cell_of x }
 {
-    match x {
-        Holding::Unused => 0,
-        Holding::Live { cell, .. } => cell,
-    }
+    x.map_or(0, |live| live.cell)
 }
 
 // The weight of an entry, 0 where it is free.
 pub fn entry_weight(x: Holding) -> u32
     ensures { result ≡ entry_weight x }
 {
-    match x {
-        Holding::Unused => 0,
-        Holding::Live { weight, .. } => weight,
-    }
+    x.map_or(0, |live| live.weight)
 }
 
 // ---- slots
@@ -241,28 +156,12 @@ pub fn entry_weight(x: Holding) -> u32
 pub fn is_empty(m: Message) -> bool
     ensures { result ≡ is_empty m }
 {
-    match m {
-        Message::Empty => true,
-        Message::Reference { .. } => false,
-        Message::Release { .. } => false,
-        Message::Read { .. } => false,
-        Message::Answer { .. } => false,
-        Message::Ask { .. } => false,
-        Message::Supply { .. } => false,
-    }
+    matches!(m, Message::Empty)
 }
 
 // A Reference going to worker w.
 pub fn goes_to(w: u8, m: Message) -> bool
     ensures { result ≡ goes_to w m }
 {
-    match m {
-        Message::Empty => false,
-        Message::Reference { to, .. } => to == w,
-        Message::Release { .. } => false,
-        Message::Read { .. } => false,
-        Message::Answer { .. } => false,
-        Message::Ask { .. } => false,
-        Message::Supply { .. } => false,
-    }
+    matches!(m, Message::Reference { to, .. } if to == w)
 }

@@ -2,7 +2,7 @@
 use Prim.Native.Nat.{ℕ, zero, suc, ◌+◌, ◌-◌, ◌*◌, ◌/◌, ◌%◌, ◌<◌, ◌≤◌}
 use Rattle.std.proofs.Common.{arith, ◌∙◌}
 use Rattle.std.proofs.Math.Nat.{sub-zero}
-use Rattle.std.specs.Prelude.{◌≡◌, Bool, false, ◌&&◌, List, ltb, get_or}
+use Rattle.std.specs.Prelude.{◌≡◌, Bool, false, ◌&&◌, List, ltb, get_or, None, Some}
 use Rattle.std.proofs.Math.Path.{refl, sym, ap, ap₂}
 use Rattle.std.proofs.Math.Bool.{true, cond}
 use Rattle.std.proofs.Math.Logic.{⊎_elim}
@@ -13,12 +13,8 @@ use Rattle.numbers.specs.ListLaws.{listed_at, listed_cong}
 use Rattle.numbers.specs.Tests.{or_else, and_l, and_r}
 use Rattle.tables.specs.declared.Kind.{Kind}
 use Rattle.tables.specs.declared.Kind.TheVariants.{Free, Var, Val, Ref, Ex}
-use Rattle.tables.specs.declared.Holding.{Holding}
-use Rattle.tables.specs.declared.Holding.TheVariants.{Unused, Live}
-use Rattle.tables.specs.declared.Place.{Place}
-use Rattle.tables.specs.declared.Place.TheVariants.{Nowhere, At}
 use Rattle.tables.specs.Machine.{Machine, Tables}
-use Rattle.tables.specs.Parts.{caller_of, named_by, end_from}
+use Rattle.tables.specs.Parts.{Holding, Place, caller_of, named_by, end_from}
 use Rattle.tables.specs.Look.{kind_at, cell, entry, end, end_kind, live_entries}
 use Rattle.tables.specs.Laws.{cell_in_lem}
 use Rattle.states.specs.Chains.{entry_end}
@@ -37,13 +33,13 @@ module _ (𝓜 : Machine) where
 
   -- of the cell that an entry of worker w names
   abbrev pub led_to : ℕ → Holding → ℕ
-  led_to w Unused = cell_count
-  led_to w (Live c n t) = table_place w c
+  led_to w None = cell_count
+  led_to w (Some l) = table_place w l.cell
 
   -- and that the entry at a place names, which holds this
   abbrev pub next_cell : Place → Holding → ℕ
-  next_cell Nowhere x = cell_count
-  next_cell (At o e) x = led_to o x
+  next_cell None x = cell_count
+  next_cell (Some p) x = led_to p.owner x
 
 -- who pays by two tables of n cells, from the cell at i on, where at most m references are followed
 unfoldable pub pays_by : ℕ → List ℕ → List ℕ → ℕ → ℕ → ℕ
@@ -151,22 +147,22 @@ module _ (𝓜 : Machine) (s : Tables) where
   one m (Ex o e w st a) rec = by (entry 𝓜 s o e)
     where
       by : (x : Holding) → cond (ltb (led_to 𝓜 o x) n) (step m (led_to 𝓜 o x)) 256 ≡ pays_from 𝓜 s m (entry_end 𝓜 s o x)
-      by Unused = rw (le-ltb n n (omega arith)) (sym (pays_free m))
-      by (Live c u t) = ⊎_elim within outside (or_else (inside o c))
+      by None = rw (le-ltb n n (omega arith)) (sym (pays_free m))
+      by (Some l) = ⊎_elim within outside (or_else (inside o l.cell))
         where
-          within : inside o c ≡ true
-              → cond (ltb (cond (inside o c) (o * 𝓜.cells + c) n) n) (step m (cond (inside o c) (o * 𝓜.cells + c) n)) 256
-              ≡ pays_from 𝓜 s m (end_kind 𝓜 s o c)
+          within : inside o l.cell ≡ true
+              → cond (ltb (cond (inside o l.cell) (o * 𝓜.cells + l.cell) n) n) (step m (cond (inside o l.cell) (o * 𝓜.cells + l.cell) n)) 256
+              ≡ pays_from 𝓜 s m (end_kind 𝓜 s o l.cell)
           within h =
-              let ow : o < 𝓜.workers = ltb-true o 𝓜.workers (and_l (ltb o 𝓜.workers) (ltb c 𝓜.cells) h) in
-              let cl : c < 𝓜.cells = ltb-true c 𝓜.cells (and_r (ltb o 𝓜.workers) (ltb c 𝓜.cells) h) in
-              rw (h, lt-ltb (o * 𝓜.cells + c) n (digits_lt ow cl))
-              (rec (o * 𝓜.cells + c) (digits_lt ow cl) ∙ ap₂ (λ (a b : ℕ). pays_from 𝓜 s m (end_kind 𝓜 s a b)) (digits_div o cl) (digits_mod o cl))
+              let ow : o < 𝓜.workers = ltb-true o 𝓜.workers (and_l (ltb o 𝓜.workers) (ltb l.cell 𝓜.cells) h) in
+              let cl : l.cell < 𝓜.cells = ltb-true l.cell 𝓜.cells (and_r (ltb o 𝓜.workers) (ltb l.cell 𝓜.cells) h) in
+              rw (h, lt-ltb (o * 𝓜.cells + l.cell) n (digits_lt ow cl))
+              (rec (o * 𝓜.cells + l.cell) (digits_lt ow cl) ∙ ap₂ (λ (a b : ℕ). pays_from 𝓜 s m (end_kind 𝓜 s a b)) (digits_div o cl) (digits_mod o cl))
 
-          outside : inside o c ≡ false
-              → cond (ltb (cond (inside o c) (o * 𝓜.cells + c) n) n) (step m (cond (inside o c) (o * 𝓜.cells + c) n)) 256
-              ≡ pays_from 𝓜 s m (end_kind 𝓜 s o c)
-          outside h = rw (h, le-ltb n n (omega arith)) (sym (ap (pays_from 𝓜 s m) (end_outside o c h) ∙ pays_free m))
+          outside : inside o l.cell ≡ false
+              → cond (ltb (cond (inside o l.cell) (o * 𝓜.cells + l.cell) n) n) (step m (cond (inside o l.cell) (o * 𝓜.cells + l.cell) n)) 256
+              ≡ pays_from 𝓜 s m (end_kind 𝓜 s o l.cell)
+          outside h = rw (h, le-ltb n n (omega arith)) (sym (ap (pays_from 𝓜 s m) (end_outside o l.cell h) ∙ pays_free m))
 
   pays_by_lem : (m i : ℕ) → i < n → step m i ≡ pays_from 𝓜 s m (end_at i)
   unfolding pays_by pays_from

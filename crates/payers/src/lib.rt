@@ -7,7 +7,7 @@ ghost use Rattle.tables.specs.Parts.{caller_of};
 ghost use Rattle.tables.specs.Machine.{eight, tables};
 ghost use Rattle.payers.specs.Ways.{table_place, led_to, next_cell, ways_of, pays_by, payers_of};
 
-use tables::{ALL_CELLS, CELL_ROW, CELLS, Holding, Kind, Place, State, WORKERS};
+use tables::{ALL_CELLS, CELL_ROW, CELLS, EntryName, Holding, Kind, State, WORKERS, Live};
 
 // No caller, and no cell: past the last of each.
 pub const NOBODY: u16 = 256;
@@ -54,18 +54,18 @@ fn led_to(w: u8, x: Holding) -> u16
     ensures { result ≡ led_to eight w x }
 {
     match x {
-        Holding::Unused => NO_CELL,
-        Holding::Live { cell, .. } => table_place(w, cell),
+        None => NO_CELL,
+        Some(Live { cell, .. }) => table_place(w, cell),
     }
 }
 
 // The cell that the entry at the place p names, where it holds x.
-fn next_cell(p: Place, x: Holding) -> u16
+fn next_cell(p: Option<EntryName>, x: Holding) -> u16
     ensures { result ≡ next_cell eight p x }
 {
     match p {
-        Place::Nowhere => NO_CELL,
-        Place::At { owner, .. } => led_to(owner, x),
+        None => NO_CELL,
+        Some(EntryName { owner, .. }) => led_to(owner, x),
     }
 }
 

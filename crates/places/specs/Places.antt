@@ -1,25 +1,21 @@
 -- The number at which a cell or an entry is read, what is seen there, and that it is what the tables hold. Assumes nothing.
-use Rattle.std.specs.Prelude.{ℕ, ◌+◌, ◌*◌, ◌≡◌, Bool, ◌&&◌}
+use Rattle.std.specs.Prelude.{ℕ, ◌+◌, ◌*◌, ◌≡◌, Bool, ◌&&◌, None, Some}
 use Rattle.std.proofs.Math.Path.{refl}
 use Rattle.std.proofs.Common.{◌∙◌}
 use Rattle.std.proofs.Math.Bool.{true, false, cond}
 use Rattle.std.proofs.Math.Dec.{ltb}
 use Rattle.tables.specs.declared.Kind.{Kind}
 use Rattle.tables.specs.declared.Kind.TheVariants.{Free}
-use Rattle.tables.specs.declared.Holding.{Holding}
-use Rattle.tables.specs.declared.Holding.TheVariants.{Unused}
 use Rattle.tables.specs.declared.Message.{Message}
 use Rattle.tables.specs.declared.Message.TheVariants.{Empty, Reference, Release, Read, Answer, Ask, Supply}
-use Rattle.tables.specs.declared.Place.{Place}
-use Rattle.tables.specs.declared.Place.TheVariants.{Nowhere, At}
 use Rattle.tables.specs.Machine.{Machine, Tables}
-use Rattle.tables.specs.Parts.{ex_names}
+use Rattle.tables.specs.Parts.{Holding, Place, ex_names}
 use Rattle.tables.specs.Look.{kind_at, holding_at, cell, entry}
 
 -- an EX that names the entry at this place
 abbrev pub names_place : Place → Kind → Bool
-names_place Nowhere k = false
-names_place (At o e) k = ex_names o e k
+names_place None k = false
+names_place (Some p) k = ex_names p.owner p.entry k
 
 -- the worker whose EX waits for a message, and the number of that cell; 0 where none waits
 abbrev pub waiter_of : Message → ℕ
@@ -48,18 +44,18 @@ module _ (𝓜 : Machine) where
   cell_seen w c k = cond (ltb w 𝓜.workers && ltb c 𝓜.cells) k Free
 
   unfoldable pub place_index : Place → ℕ
-  place_index Nowhere = 0
-  place_index (At o e) = cond (ltb o 𝓜.workers && ltb e 𝓜.entries) (o * 𝓜.entries + e) 0
+  place_index None = 0
+  place_index (Some p) = cond (ltb p.owner 𝓜.workers && ltb p.entry 𝓜.entries) (p.owner * 𝓜.entries + p.entry) 0
 
   unfoldable pub place_seen : Place → Holding → Holding
-  place_seen Nowhere x = Unused
-  place_seen (At o e) x = cond (ltb o 𝓜.workers && ltb e 𝓜.entries) x Unused
+  place_seen None x = None
+  place_seen (Some p) x = cond (ltb p.owner 𝓜.workers && ltb p.entry 𝓜.entries) x None
 
 module _ (𝓜 : Machine) (s : Tables) where
   -- what the entry at this place holds
   unfoldable pub entry_there : Place → Holding
-  entry_there Nowhere = Unused
-  entry_there (At o e) = entry 𝓜 s o e
+  entry_there None = None
+  entry_there (Some p) = entry 𝓜 s p.owner p.entry
 
   seen_cell : (w c : ℕ) → cell_seen 𝓜 w c (kind_at s.cells (cell_index 𝓜 w c)) ≡ cell 𝓜 s w c
   unfolding cell_seen cell_index cell
@@ -71,10 +67,10 @@ module _ (𝓜 : Machine) (s : Tables) where
 
   seen_entry : (p : Place) → place_seen 𝓜 p (holding_at s.entries (place_index 𝓜 p)) ≡ entry_there p
   unfolding place_seen place_index entry_there entry
-  seen_entry Nowhere = refl
-  seen_entry (At o e) = go (ltb o 𝓜.workers && ltb e 𝓜.entries)
+  seen_entry None = refl
+  seen_entry (Some p) = go (ltb p.owner 𝓜.workers && ltb p.entry 𝓜.entries)
     where
-      go : (b : Bool) → cond b (holding_at s.entries (cond b (o * 𝓜.entries + e) 0)) Unused ≡ cond b (holding_at s.entries (o * 𝓜.entries + e)) Unused
+      go : (b : Bool) → cond b (holding_at s.entries (cond b (p.owner * 𝓜.entries + p.entry) 0)) None ≡ cond b (holding_at s.entries (p.owner * 𝓜.entries + p.entry)) None
       go true = refl
       go false = refl
 

@@ -3,11 +3,11 @@
 #![tactic(auto)]
 
 ghost use Rattle.std.specs.Prelude.{◌≡◌, ◌<◌};
-ghost use Rattle.tables.specs.declared.Place.TheVariants.{At};
 ghost use Rattle.tables.specs.Machine.{eight};
+ghost use Rattle.tables.specs.Parts.{place};
 ghost use Rattle.places.specs.Places.{cell_index, cell_seen, place_index, place_seen, names_place, waiter_of, cell_for};
 
-use tables::{CELL_ROW, CELLS, ENTRIES, ENTRY_ROW, Holding, Kind, Message, Place, WORKERS};
+use tables::{CELL_ROW, CELLS, ENTRIES, ENTRY_ROW, EntryName, Holding, Kind, Message, WORKERS};
 
 // Where the cell c of worker w is read.
 #[tactic(auto, unfolding(crate::specs::Places::cell_index))]
@@ -40,7 +40,7 @@ pub fn cell_seen(w: u8, c: u8, k: Kind) -> Kind
 
 #[tactic(auto, unfolding(crate::specs::Places::place_index))]
 fn entry_index(w: u8, e: u8) -> usize
-    ensures value { result ≡ place_index eight (At w e) }
+    ensures value { result ≡ place_index eight (place w e) }
     ensures upper_bound { result < 128 }
 {
     if WORKERS <= w {
@@ -54,47 +54,47 @@ fn entry_index(w: u8, e: u8) -> usize
 
 #[tactic(auto, unfolding(crate::specs::Places::place_seen))]
 fn entry_seen(w: u8, e: u8, x: Holding) -> Holding
-    ensures { result ≡ place_seen eight (At w e) x }
+    ensures { result ≡ place_seen eight (place w e) x }
 {
     if WORKERS <= w {
-        return Holding::Unused;
+        return None;
     }
     if ENTRIES <= e {
-        return Holding::Unused;
+        return None;
     }
     x
 }
 
 // Where the entry at the place p is read.
 #[tactic(auto, unfolding(crate::specs::Places::place_index))]
-pub fn place_index(p: Place) -> usize
+pub fn place_index(p: Option<EntryName>) -> usize
     ensures value { result ≡ place_index eight p }
     ensures upper_bound { result < 128 }
 {
     match p {
-        Place::Nowhere => 0,
-        Place::At { owner, entry } => entry_index(owner, entry),
+        None => 0,
+        Some(EntryName { owner, entry }) => entry_index(owner, entry),
     }
 }
 
 // What the entry at the place p holds, where x is read.
 #[tactic(auto, unfolding(crate::specs::Places::place_seen))]
-pub fn place_seen(p: Place, x: Holding) -> Holding
+pub fn place_seen(p: Option<EntryName>, x: Holding) -> Holding
     ensures { result ≡ place_seen eight p x }
 {
     match p {
-        Place::Nowhere => Holding::Unused,
-        Place::At { owner, entry } => entry_seen(owner, entry, x),
+        None => None,
+        Some(EntryName { owner, entry }) => entry_seen(owner, entry, x),
     }
 }
 
 // An EX that names the entry at the place p.
-pub fn names_place(p: Place, k: Kind) -> bool
+pub fn names_place(p: Option<EntryName>, k: Kind) -> bool
     ensures { result ≡ names_place p k }
 {
     match p {
-        Place::Nowhere => false,
-        Place::At { owner, entry } => parts::ex_names(owner, entry, k),
+        None => false,
+        Some(EntryName { owner, entry }) => parts::ex_names(owner, entry, k),
     }
 }
 

@@ -40,7 +40,7 @@ pub fn new(s: State, w: u8, caller: u32) -> Reply
 fn try_new(s: &State, w: u8, caller: u32) -> Result<Effect, Refusal>
     ensures { settled result ≡ new eight (tables s.now) w caller }
 {
-    worker_refusals(sound::is_sound(*s), s.p, w)?;
+    worker_refusals(sound::is_sound(s), s.p, w)?;
     refuse_if(LAST_CALLER < caller, Refusal::NoCaller)?;
     let full = searches::free_cells(&s.cells, w) <= searches::booked(&s.slots, w);
     refuse_if(full, Refusal::NoRoom)?;
@@ -61,7 +61,7 @@ fn try_set(s: &State, w: u8, c: u8, n: u32) -> Result<Effect, Refusal>
     ensures { settled result ≡ set eight (tables s.now) w c n }
 {
     let k = lookups::cell_at(&s.cells, w, c);
-    cell_refusals(sound::is_sound(*s), s.p, w, k)?;
+    cell_refusals(sound::is_sound(s), s.p, w, k)?;
     refuse_if(!parts::is_var(k), Refusal::WrongKind)?;
     Ok(changes::with_cell(Outcome::Done(0), w, c, changes::valued(n, k)))
 }
@@ -82,7 +82,7 @@ fn try_bind(s: &State, w: u8, c: u8, x: u8) -> Result<Effect, Refusal>
     let other = lookups::see(&s.cells, w, x);
     let exported = searches::is_exported(&s.entries, w, c);
     let safe = lookups::is_safe(&s.entries, w, other.ending);
-    bind_refusals(sound::is_sound(*s), s.p, w, k, other, exported, safe)?;
+    bind_refusals(sound::is_sound(s), s.p, w, k, other, exported, safe)?;
     let bound = changes::bound_to(other.end, k, other.ending);
     Ok(changes::with_cell(Outcome::Done(0), w, c, bound))
 }
@@ -99,7 +99,7 @@ pub fn bound(s: State) -> Reply
 fn try_bound(s: &State) -> Result<Effect, Refusal>
     ensures { settled result ≡ bound eight (tables s.now) }
 {
-    state_refusal(sound::is_sound(*s))?;
+    state_refusal(sound::is_sound(s))?;
     let b = changes::all_costs(&s.entries, &s.slots);
     Ok(changes::unchanged(Outcome::Done(b)))
 }

@@ -1,5 +1,5 @@
 -- What a search and a count over a row find of a worker's cells and entries, as document 01's tables say them. Assumes nothing.
-use Rattle.std.specs.Prelude.{ℕ, zero, suc, ◌+◌, ◌*◌, ◌<◌, Bool, List, ◌≡◌, refl, length}
+use Rattle.std.specs.Prelude.{None, ℕ, zero, suc, ◌+◌, ◌*◌, ◌<◌, Bool, List, ◌≡◌, refl, length}
 use Rattle.std.proofs.Common.{arith, ap, ◌∙◌}
 use Rattle.numbers.specs.Below.{bit, count_below, lowest_from, lowest}
 use Rattle.numbers.specs.BelowLaws.{sum_cong}
@@ -7,8 +7,6 @@ use Rattle.tables.specs.declared.Cell.{Cell}
 use Rattle.tables.specs.declared.Kind.{Kind}
 use Rattle.tables.specs.declared.Kind.TheVariants.{Free}
 use Rattle.tables.specs.declared.Entry.{Entry}
-use Rattle.tables.specs.declared.Holding.{Holding}
-use Rattle.tables.specs.declared.Holding.TheVariants.{Unused}
 use Rattle.tables.specs.declared.Slot.{Slot}
 use Rattle.tables.specs.declared.Message.{Message}
 use Rattle.tables.specs.declared.Message.TheVariants.{Empty}
@@ -16,6 +14,7 @@ use Rattle.tables.specs.Machine.{Machine, Tables}
 use Rattle.tables.specs.Look.{cell, entry, message}
 use Rattle.rows.specs.Rows.{row_at}
 use Rattle.rows.specs.Laws.{cell_read, entry_read, slot_read}
+use Rattle.tables.specs.Parts.{Holding}
 
 -- searches by two tests that agree
 from_cong : (p q : ℕ → Bool) (n i : ℕ) → ((j : ℕ) → j < i + n → p j ≡ q j) → lowest_from p n i ≡ lowest_from q n i
@@ -38,9 +37,14 @@ module _ (𝓜 : Machine) (s : Tables) (w : ℕ) where
   cells_lowest q e long r = r ∙ lowest_cong 𝓜.cells _ _ (λ c _. ap q (cell_read 𝓜 s w c e long refl))
 
   pub entries_lowest : (q : Holding → Bool) {l : List Entry} {r : ℕ} → s.entries ≡ l → length l ≡ 𝓜.workers * 𝓜.entries
-      → r ≡ lowest 𝓜.entries (λ e. q (row_at 𝓜.entries (record { holding = Unused }) l w e).holding) → r ≡ lowest 𝓜.entries (λ e. q (entry 𝓜 s w e))
+      → r ≡ lowest 𝓜.entries (λ e. q (row_at 𝓜.entries (record { holding = None }) l w e).holding) → r ≡ lowest 𝓜.entries (λ e. q (entry 𝓜 s w e))
   entries_lowest q h long r = r ∙ lowest_cong 𝓜.entries _ _ (λ e _. ap q (entry_read 𝓜 s w e h long refl))
 
   pub cells_counted : (q : Kind → Bool) {l : List Cell} {r : ℕ} → s.cells ≡ l → length l ≡ 𝓜.workers * 𝓜.cells
       → r ≡ count_below 𝓜.cells (λ c. q (row_at 𝓜.cells (record { kind = Free }) l w c).kind) → r ≡ count_below 𝓜.cells (λ c. q (cell 𝓜 s w c))
   cells_counted q e long r = r ∙ sum_cong 𝓜.cells _ _ (λ c _. ap (λ (k : Kind). bit (q k)) (cell_read 𝓜 s w c e long refl))
+
+  pub entries_counted : (q : Holding → Bool) {l : List Entry} {r : ℕ} → s.entries ≡ l → length l ≡ 𝓜.workers * 𝓜.entries
+      → r ≡ count_below 𝓜.entries (λ e. q (row_at 𝓜.entries (record { holding = None }) l w e).holding)
+      → r ≡ count_below 𝓜.entries (λ e. q (entry 𝓜 s w e))
+  entries_counted q h long r = r ∙ sum_cong 𝓜.entries _ _ (λ e _. ap (λ (x : Holding). bit (q x)) (entry_read 𝓜 s w e h long refl))

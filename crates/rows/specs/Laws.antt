@@ -1,6 +1,6 @@
 -- A table of rows that is as long as its rows are together: what is read in it and stored, as document 01's tables say it, of cells, entries and slots.
 -- Assumes nothing.
-use Rattle.std.specs.Prelude.{ℕ, ◌+◌, ◌*◌, ◌≤◌, ◌≡◌, refl, Bool, true, false, ◌&&◌, cond, List, length, get_or, set, ltb}
+use Rattle.std.specs.Prelude.{None, ℕ, ◌+◌, ◌*◌, ◌≤◌, ◌≡◌, refl, Bool, true, false, ◌&&◌, cond, List, length, get_or, set, ltb}
 use Rattle.std.proofs.Common.{arith, sym, ap}
 use Rattle.std.proofs.Math.ListN.{get_or-eq_default}
 use Rattle.std.proofs.Math.Nat.{mul-le-mul_right, zero-mul, zero-add}
@@ -10,14 +10,13 @@ use Rattle.tables.specs.declared.Cell.{Cell}
 use Rattle.tables.specs.declared.Kind.{Kind}
 use Rattle.tables.specs.declared.Kind.TheVariants.{Free}
 use Rattle.tables.specs.declared.Entry.{Entry}
-use Rattle.tables.specs.declared.Holding.{Holding}
-use Rattle.tables.specs.declared.Holding.TheVariants.{Unused}
 use Rattle.tables.specs.declared.Slot.{Slot}
 use Rattle.tables.specs.declared.Message.{Message}
 use Rattle.tables.specs.declared.Message.TheVariants.{Empty}
 use Rattle.tables.specs.Machine.{Machine, Tables, with_cells, with_entries, with_slots}
 use Rattle.tables.specs.Look.{cell, entry, message, put_cell, put_entry, put_message}
 use Rattle.rows.specs.Rows.{row_at, row_put}
+use Rattle.tables.specs.Parts.{Holding}
 
 -- past the last row there is no place
 past : (l rows width w i : ℕ) → l ≡ rows * width → rows ≤ w → l ≤ w * width + i
@@ -54,10 +53,10 @@ module _ (𝓜 : Machine) where
       rw (r, e) (row_is l 𝓜.workers 𝓜.cells w c long (λ (y : Cell). y.kind) (record { kind = Free }))
 
   pub entry_read : (s : Tables) (w e : ℕ) {l : List Entry} {x : Entry} → s.entries ≡ l → length l ≡ 𝓜.workers * 𝓜.entries
-      → x ≡ row_at 𝓜.entries (record { holding = Unused }) l w e → x.holding ≡ entry 𝓜 s w e
+      → x ≡ row_at 𝓜.entries (record { holding = None }) l w e → x.holding ≡ entry 𝓜 s w e
   unfolding entry
   entry_read s w e {l} h long r =
-      rw (r, h) (row_is l 𝓜.workers 𝓜.entries w e long (λ (y : Entry). y.holding) (record { holding = Unused }))
+      rw (r, h) (row_is l 𝓜.workers 𝓜.entries w e long (λ (y : Entry). y.holding) (record { holding = None }))
 
   pub cell_stored : (s : Tables) (w c : ℕ) (k : Kind) {l : List Cell} → length s.cells ≡ 𝓜.workers * 𝓜.cells
       → l ≡ row_put 𝓜.cells s.cells w c (record { kind = k }) → with_cells s l ≡ put_cell 𝓜 s w c k

@@ -2,10 +2,9 @@
 // many are counted. Each function is total: past a row's end and past the last row a free part is read, and a store there changes nothing.
 #![tactic(auto)]
 
-ghost use Rattle.std.specs.Prelude.{◌≡◌, ℕ, ◌+◌, ◌*◌, Bool};
+ghost use Rattle.std.specs.Prelude.{◌≡◌, ℕ, ◌+◌, ◌*◌, Bool, None};
 ghost use Rattle.numbers.specs.Below.{lowest, count_below};
 ghost use Rattle.tables.specs.declared.Kind.TheVariants.{Free};
-ghost use Rattle.tables.specs.declared.Holding.TheVariants.{Unused};
 ghost use Rattle.tables.specs.declared.Message.TheVariants.{Empty};
 ghost use Rattle.rows.specs.Rows.{row_at, row_put};
 
@@ -40,12 +39,10 @@ impl Part for Entry {
 
     ghost WIDTH = { 16 };
 
-    ghost free = { record { holding = Unused } };
+    ghost free = { record { holding = None } };
 
     fn free() -> Entry {
-        Entry {
-            holding: Holding::Unused,
-        }
+        Entry { holding: None }
     }
 }
 

@@ -1,4 +1,5 @@
 -- Deliveries: what becomes of each message keeps the invariant. Assumes nothing.
+use Rattle.std.specs.Prelude.{None}
 use Prim.Native.Nat.{ℕ, ◌+◌, ◌-◌, ◌<◌, ◌≤◌, min}
 use native.Mathlib.Nat.{min-le_right}
 use native.Mathlib.Omega.{arith}
@@ -15,14 +16,10 @@ use Rattle.tables.specs.declared.Status.{Status}
 use Rattle.tables.specs.declared.Status.TheVariants.{Idle, Reading, Known}
 use Rattle.tables.specs.declared.Kind.{Kind}
 use Rattle.tables.specs.declared.Kind.TheVariants.{Free, Var, Val, Ref, Ex}
-use Rattle.tables.specs.declared.Holding.{Holding}
-use Rattle.tables.specs.declared.Holding.TheVariants.{Unused, Live}
 use Rattle.tables.specs.declared.Message.{Message}
 use Rattle.tables.specs.declared.Message.TheVariants.{Empty, Reference, Release, Read, Answer, Ask, Supply}
-use Rattle.tables.specs.declared.Place.{Place}
-use Rattle.tables.specs.declared.Place.TheVariants.{Nowhere, At}
 use Rattle.tables.specs.Machine.{Machine, Tables}
-use Rattle.tables.specs.Parts.{is_free, is_var, is_val, ex_names, named_by, is_live, is_tainted, entry_names, entry_weight, is_empty, goes_to, cell_of, reading_of}
+use Rattle.tables.specs.Parts.{Holding, live, Place, place, is_free, is_var, is_val, ex_names, named_by, is_live, is_tainted, entry_names, entry_weight, is_empty, goes_to, cell_of, reading_of}
 use Rattle.tables.specs.Look.{cell, entry, end, end_kind, ex_naming, lowest_free_cell, booked, message, put_cell, put_entry, put_message, changed}
 use Rattle.rules.specs.Answers.{made}
 use Rattle.states.specs.Chains.{entry_end, follow, ahead, EndsIn}
@@ -113,14 +110,14 @@ module _ (𝓜 : Machine) (L : Laws 𝓜) (s : Tables) (F : Facts 𝓜 s) (reads
           live (kind_same (cell 𝓜 s 0 0))
           (λ ρ R. B.cost (next 𝓜 s (entry_move 𝓜 s o e x₀ x k m₀ Empty)) ρ)
 
-      go : (c n : ℕ) (t : Bool) → entry 𝓜 s o e ≡ Live c n t → EntryFact 𝓜 s o (Live c n t) → o < 𝓜.workers → e < 𝓜.entries → k < 𝓜.slots → w ≤ n
-          → (b : Bool) → leb n w ≡ b → Delivers 𝓜 s (put_message (put_entry 𝓜 s o e (cond b Unused (Live c (n - w) t))) k Empty)
+      go : (c n : ℕ) (t : Bool) → entry 𝓜 s o e ≡ live c n t → EntryFact 𝓜 s o (live c n t) → o < 𝓜.workers → e < 𝓜.entries → k < 𝓜.slots → w ≤ n
+          → (b : Bool) → leb n w ≡ b → Delivers 𝓜 s (put_message (put_entry 𝓜 s o e (cond b None (live c (n - w) t))) k Empty)
       go c n t q f oi ei ki enough true all =
-          taken (Live c n t) Unused q oi ei ki tt (λ a b. absurd_bool b refl) (λ f d a b. absurd_bool a refl) (λ y. refl)
+          taken (live c n t) None q oi ei ki tt (λ a b. absurd_bool b refl) (λ f d a b. absurd_bool a refl) (λ y. refl)
           (omega (arith, leb-true n w all))
       go c n t q f oi ei ki enough false some =
           let more = leb-false n w some in
-          taken (Live c n t) (Live c (n - w) t) q oi ei ki
+          taken (live c n t) (live c (n - w) t) q oi ei ki
           (entry_next 𝓜 s F (entry_placed 𝓜 L s oi ei ki q B.slot) c (n - w) t (omega (arith, f.0)) (omega arith) f.2 f.3)
           (λ a b. (refl, refl))
           (λ y d a b. F.entry_once o y e d b (ap (entry_names d) q ∙ a))
@@ -245,39 +242,39 @@ module _ (𝓜 : Machine) (L : Laws 𝓜) (s : Tables) (F : Facts 𝓜 s) (reads
         let h = turned m in
         (same, subst (LivePlace 𝓜 (next 𝓜 s h)) same (named_place 𝓜 (next 𝓜 s h) (facts_kept 𝓜 s h F K) r c))
 
-    read_of : (n : ℕ) × (ahead 𝓜 s n reader ≡ At o e)
+    read_of : (n : ℕ) × (ahead 𝓜 s n reader ≡ place o e)
     read_of = subst (λ (m : Message). (n : ℕ) × ReadAhead 𝓜 s n m) q (reads k)
 
     -- its entry is live after it goes on
     live_read : (m : Message) → Keeps 𝓜 s (turned m) → is_live (entry 𝓜 (next 𝓜 s (turned m)) o e) ≡ true
     live_read m K = ap is_live (entries_same 𝓜 s F K.placed refl o e) ∙ read_live 𝓜 s F reads k r c o e q
 
-    goes_on : (o' e' : ℕ) → follow 𝓜 s (At o e) ≡ At o' e' → Delivers 𝓜 s (put_message s k (Read r c o' e'))
+    goes_on : (o' e' : ℕ) → follow 𝓜 s (place o e) ≡ place o' e' → Delivers 𝓜 s (put_message s k (Read r c o' e'))
     unfolding ahead
     goes_on o' e' step =
         let m = Read r c o' e' in
         let h = turned m in
         let K = passes m (λ t. tt) (λ v d. refl) (λ v d. refl) (λ t a b. refl) (λ v. refl) in
         let n = read_of.0 in
-        let place = reader_place m K in
-        let further : ahead 𝓜 s (n + 1) reader ≡ At o' e' = ahead_add 𝓜 s n 1 reader ∙ ap (follow 𝓜 s) read_of.1 ∙ step in
-        let now = ap (ahead 𝓜 (next 𝓜 s h) (n + 1)) place.0 ∙ ahead_kept 𝓜 s h F K (n + 1) reader o' e' place.1 further in
+        let stays = reader_place m K in
+        let further : ahead 𝓜 s (n + 1) reader ≡ place o' e' = ahead_add 𝓜 s n 1 reader ∙ ap (follow 𝓜 s) read_of.1 ∙ step in
+        let now = ap (ahead 𝓜 (next 𝓜 s h) (n + 1)) stays.0 ∙ ahead_kept 𝓜 s h F K (n + 1) reader o' e' stays.1 further in
         let z = (facts_kept 𝓜 s h F K).sized in
         delivers_by 𝓜 s (stores_slot 𝓜 L s k (Read r c o e) m K)
         (inr (n + 1, now)) (λ t. record { answer_ok = inr tt; known_ok = inl (λ y. y) })
         (λ y. y) (kind_same (cell 𝓜 s 0 0))
         (λ ρ R. omega (arith, standing_falls 𝓜 L (next 𝓜 s h) z ρ o e (ρ o' e') (live_read m K) (R.falls o e o' e' step)))
 
-    is_answered : (v : ℕ) → (TrueValues 𝓜 s → EndsIn 𝓜 s (At o e) v) → Delivers 𝓜 s (put_message s k (Answer r c v))
+    is_answered : (v : ℕ) → (TrueValues 𝓜 s → EndsIn 𝓜 s (place o e) v) → Delivers 𝓜 s (put_message s k (Answer r c v))
     is_answered v ends =
         let m = Answer r c v in
         let h = turned m in
         let K = passes m (λ t. tt) (λ v d. refl) (λ v d. refl) (λ t a b. refl) (λ v. refl) in
-        let place = reader_place m K in
-        let from_reader : TrueValues 𝓜 s → EndsIn 𝓜 s reader v = λ t. ends_before 𝓜 s read_of.0 reader (At o e) v read_of.1 (ends t) in
-        let now : TrueValues 𝓜 s → EndsIn 𝓜 (next 𝓜 s h) reader v = λ t. ends_kept 𝓜 s h F K reader v place.1 (from_reader t) in
+        let stays = reader_place m K in
+        let from_reader : TrueValues 𝓜 s → EndsIn 𝓜 s reader v = λ t. ends_before 𝓜 s read_of.0 reader (place o e) v read_of.1 (ends t) in
+        let now : TrueValues 𝓜 s → EndsIn 𝓜 (next 𝓜 s h) reader v = λ t. ends_kept 𝓜 s h F K reader v stays.1 (from_reader t) in
         delivers_by 𝓜 s (stores_slot 𝓜 L s k (Read r c o e) m K)
-        (inr (0, tt)) (λ t. record { answer_ok = inr (rw place.0 (now t)); known_ok = inl (λ y. y) })
+        (inr (0, tt)) (λ t. record { answer_ok = inr (rw stays.0 (now t)); known_ok = inl (λ y. y) })
         (λ y. y) (kind_same (cell 𝓜 s 0 0))
         (λ ρ R. omega (arith, standing_some 𝓜 L (next 𝓜 s h) (facts_kept 𝓜 s h F K).sized ρ o e (live_read m K)))
 
@@ -290,11 +287,11 @@ module _ (𝓜 : Machine) (L : Laws 𝓜) (s : Tables) (F : Facts 𝓜 s) (reads
         let not_var_lem = sym (ap (λ (x : Holding). not (is_var (entry_end 𝓜 s o x))) l.is) ∙ is_ready in
         rw l.is (at_end l.is (cell 𝓜 s o (end 𝓜 s o l.cell)) refl is not_var_lem)
       where
-        no_end : {X : Type 0} (y : Kind) → (is_var y || is_val y) ≡ false → named_by y ≡ Nowhere → EndIs y → X
+        no_end : {X : Type 0} (y : Kind) → (is_var y || is_val y) ≡ false → named_by y ≡ None → EndIs y → X
         no_end y v n (plain t) = absurd_bool t v
         no_end y v n (leads a b t) = nowhere_at (sym n ∙ t)
 
-        at_end : {d n : ℕ} {t : Bool} → entry 𝓜 s o e ≡ Live d n t → (y : Kind) → cell 𝓜 s o (end 𝓜 s o d) ≡ y → EndIs y → not (is_var y) ≡ true
+        at_end : {d n : ℕ} {t : Bool} → entry 𝓜 s o e ≡ live d n t → (y : Kind) → cell 𝓜 s o (end 𝓜 s o d) ≡ y → EndIs y → not (is_var y) ≡ true
             → Delivers 𝓜 s (put_message s k (read_on r c (Read r c o e) y))
         at_end i Free j is w = no_end Free refl refl is
         at_end i (Var caller) j is w = absurd_bool w refl
@@ -305,7 +302,7 @@ module _ (𝓜 : Machine) (L : Laws 𝓜) (s : Tables) (F : Facts 𝓜 s) (reads
         at_end i (Ex o' e' m Reading a) j is w = goes_on o' e' (follow_live 𝓜 s o e i ∙ ap named_by j)
         at_end {d} i (Ex o' e' m (Known v) a) j is w =
             is_answered v
-            (λ t. ends_before 𝓜 s 1 (At o e) (At o' e') v (follow_live 𝓜 s o e i ∙ ap named_by j) (subst (KnownFact 𝓜 s) j (t.exes o (end 𝓜 s o d))))
+            (λ t. ends_before 𝓜 s 1 (place o e) (place o' e') v (follow_live 𝓜 s o e i ∙ ap named_by j) (subst (KnownFact 𝓜 s) j (t.exes o (end 𝓜 s o d))))
 
   -- "Answer"
   answer_arrives : (k r c v : ℕ) → message s k ≡ Answer r c v → Delivers 𝓜 s (made 𝓜 s (deliver_answer 𝓜 s k r c v)).after
@@ -344,7 +341,7 @@ module _ (𝓜 : Machine) (L : Laws 𝓜) (s : Tables) (F : Facts 𝓜 s) (reads
           let K = S.keeps in
           let here = (cell_stored 𝓜 s h F.sized K.placed).here in
           let live = subst (LivePlace 𝓜 (next 𝓜 s h)) (ap named_by here) (named_place 𝓜 (next 𝓜 s h) (facts_kept 𝓜 s h F K) r c) in
-          let now : TrueValues 𝓜 s → EndsIn 𝓜 (next 𝓜 s h) (At o e) v = λ t. ends_kept 𝓜 s h F K (At o e) v live (rw i at (ends t)) in
+          let now : TrueValues 𝓜 s → EndsIn 𝓜 (next 𝓜 s h) (place o e) v = λ t. ends_kept 𝓜 s h F K (place o e) v live (rw i at (ends t)) in
           delivers_by 𝓜 s S
           (inr (0, tt)) (λ t. record { answer_ok = inr tt; known_ok = inr (now t) })
           (λ y. y) (ex_on o e n Reading (Known v) a tt) (λ ρ R. omega arith)
@@ -390,13 +387,13 @@ module _ (𝓜 : Machine) (L : Laws 𝓜) (s : Tables) (F : Facts 𝓜 s) (reads
       let small = min-le_right 𝓜.first_weight (𝓜.ceiling - l.weight) in
       rw l.is (go given l.is (live_fact 𝓜 s F o e l) inside.0 inside.1 small (the_ex_of o e (cell 𝓜 s a c) names))
     where
-      go : {d n : ℕ} {t : Bool} (w : ℕ) → entry 𝓜 s o e ≡ Live d n t → EntryFact 𝓜 s o (Live d n t) → o < 𝓜.workers → e < 𝓜.entries
-          → w ≤ 𝓜.ceiling - n → ExOf o e (cell 𝓜 s a c) → Delivers 𝓜 s (put_message (put_entry 𝓜 s o e (Live d (n + w) t)) k (Supply a c w))
+      go : {d n : ℕ} {t : Bool} (w : ℕ) → entry 𝓜 s o e ≡ live d n t → EntryFact 𝓜 s o (live d n t) → o < 𝓜.workers → e < 𝓜.entries
+          → w ≤ 𝓜.ceiling - n → ExOf o e (cell 𝓜 s a c) → Delivers 𝓜 s (put_message (put_entry 𝓜 s o e (live d (n + w) t)) k (Supply a c w))
       go {d} {n} {t} w i f oi ei small x =
           let within = message_inside k (ap is_empty q) in
-          let placed : Placed 𝓜 s (entry_move 𝓜 s o e (Live d n t) (Live d (n + w) t) k (Ask a c o e) (Supply a c w)) = entry_placed 𝓜 L s oi ei within i q in
+          let placed : Placed 𝓜 s (entry_move 𝓜 s o e (live d n t) (live d (n + w) t) k (Ask a c o e) (Supply a c w)) = entry_placed 𝓜 L s oi ei within i q in
           let at_place : (y z : ℕ) → ex_names y z (cell 𝓜 s a c) ≡ (eqb o y && eqb e z) = λ y z. ap (ex_names y z) x.is in
-          delivers_by 𝓜 s (stores_entry 𝓜 L s F o e (Live d n t) (Live d (n + w) t) k (Ask a c o e) (Supply a c w)
+          delivers_by 𝓜 s (stores_entry 𝓜 L s F o e (live d n t) (live d (n + w) t) k (Ask a c o e) (Supply a c w)
           (record {
             o_in = oi;
             e_in = ei;

@@ -15,14 +15,12 @@ use Rattle.tables.specs.declared.Entry.{Entry}
 use Rattle.tables.specs.declared.Slot.{Slot}
 use Rattle.tables.specs.declared.Kind.{Kind}
 use Rattle.tables.specs.declared.Kind.TheVariants.{Free}
-use Rattle.tables.specs.declared.Holding.TheVariants.{Unused}
 use Rattle.tables.specs.declared.Message.{Message}
 use Rattle.tables.specs.declared.Message.TheVariants.{Empty}
 use Rattle.tables.specs.declared.Outcome.TheVariants.{Done, Refused}
 use Rattle.tables.specs.declared.Refusal.TheVariants.{WorkerCount}
-use Rattle.tables.specs.declared.Place.TheVariants.{At}
 use Rattle.tables.specs.Machine.{Machine, Tables}
-use Rattle.tables.specs.Parts.{is_reading, is_asking, ex_names, is_live, entry_names, entry_weight, goes_to}
+use Rattle.tables.specs.Parts.{place, is_reading, is_asking, ex_names, is_live, entry_names, entry_weight, goes_to}
 use Rattle.tables.specs.Look.{cell, entry, booked, message}
 use Rattle.rules.specs.Answers.{Result}
 use Rattle.states.specs.Chains.{through, follow}
@@ -33,6 +31,7 @@ use Rattle.states.specs.Facts.{CellFact, EntryFact, MessageFact, ReadAhead}
 use Rattle.states.proofs.Inside.{cells_all, entries_all}
 use Rattle.states.proofs.Named.{nowhere_at}
 use Rattle.states.specs.Move.{Invariant}
+use Rattle.std.specs.Prelude.{None}
 
 module _ (𝓜 : Machine) (p : ℕ) where
   s : Tables
@@ -44,11 +43,11 @@ module _ (𝓜 : Machine) (p : ℕ) where
       cells_all 𝓜 s (λ w c k. k ≡ Free) (λ w c. refl)
       (λ w c a b. ap (λ (x : Cell). x.kind) (blank (𝓜.workers * 𝓜.cells) (w * 𝓜.cells + c) (record { kind = Free })))
 
-  entry_free_lem : (w e : ℕ) → entry 𝓜 s w e ≡ Unused
+  entry_free_lem : (w e : ℕ) → entry 𝓜 s w e ≡ None
   unfolding s all_free
   entry_free_lem =
-      entries_all 𝓜 s (λ w e x. x ≡ Unused) (λ w e. refl)
-      (λ w e a b. ap (λ (x : Entry). x.holding) (blank (𝓜.workers * 𝓜.entries) (w * 𝓜.entries + e) (record { holding = Unused })))
+      entries_all 𝓜 s (λ w e x. x ≡ None) (λ w e. refl)
+      (λ w e a b. ap (λ (x : Entry). x.holding) (blank (𝓜.workers * 𝓜.entries) (w * 𝓜.entries + e) (record { holding = None })))
 
   message_free : (k : ℕ) → message s k ≡ Empty
   unfolding s all_free
@@ -70,7 +69,7 @@ module _ (𝓜 : Machine) (p : ℕ) where
   nothing_held_lem o e =
       omega (arith, cells_nothing (cell_holds 𝓜 s o e) refl, slots_nothing (message_holds 𝓜 s o e) refl)
 
-  no_step : (a b o e : ℕ) → follow 𝓜 s (At a b) ≡ At o e → ⊥
+  no_step : (a b o e : ℕ) → follow 𝓜 s (place a b) ≡ place o e → ⊥
   unfolding follow
   no_step a b o e q = nowhere_at (sym (ap (through 𝓜 s a) (entry_free_lem a b)) ∙ q)
 
@@ -83,7 +82,7 @@ module _ (𝓜 : Machine) (p : ℕ) where
               sized =
                   record {
                     cells_long = length-replicate (𝓜.workers * 𝓜.cells) (record { kind = Free });
-                    entries_long = length-replicate (𝓜.workers * 𝓜.entries) (record { holding = Unused });
+                    entries_long = length-replicate (𝓜.workers * 𝓜.entries) (record { holding = None });
                     slots_long = length-replicate 𝓜.slots (record { message = Empty });
                   };
               p_le = le;

@@ -16,14 +16,13 @@ use Rattle.tables.specs.declared.Kind.{Kind}
 use Rattle.tables.specs.declared.Kind.TheVariants.{Free, Var, Val, Ref, Ex}
 use Rattle.tables.specs.declared.Message.{Message}
 use Rattle.tables.specs.declared.Message.TheVariants.{Empty, Reference, Release, Read, Answer, Ask, Supply}
-use Rattle.tables.specs.declared.Holding.{Holding}
 use Rattle.tables.specs.declared.Change.{Change}
 use Rattle.tables.specs.declared.Change.TheVariants.{Nothing, OfCell, OfSlot, OfCellAndSlot, OfEntryAndSlot}
 use Rattle.tables.specs.declared.Effect.{Effect}
 use Rattle.tables.specs.declared.Call.{Call}
 use Rattle.tables.specs.declared.Call.TheVariants.{Start, New, Set, Bind, Export, Indirect, Transfer, Drop, ReadCell, AskWeight, Deliver, Bound}
 use Rattle.tables.specs.Machine.{Machine, Tables}
-use Rattle.tables.specs.Parts.{on_ex, is_free, is_var, is_val, has_caller, caller_of, is_ex, is_known, ex_names}
+use Rattle.tables.specs.Parts.{Holding, on_ex, is_free, is_var, is_val, has_caller, caller_of, is_ex, is_known, ex_names}
 use Rattle.tables.specs.Look.{cell, entry, end, end_kind, ex_naming, lowest_free_cell, lowest_empty_slot, message, put_cell, put_entry, put_message, changed}
 use Rattle.states.specs.Machines.{Laws, Sized}
 use Rattle.states.specs.Move.{shown}

@@ -11,12 +11,10 @@ use borrow.Author.Tests.{eq-eqb, eqb-true}
 use Rattle.numbers.specs.Tests.{absurd_bool}
 use Rattle.tables.specs.declared.Kind.{Kind}
 use Rattle.tables.specs.declared.Kind.TheVariants.{Free, Var, Val, Ref, Ex}
-use Rattle.tables.specs.declared.Holding.{Holding}
 use Rattle.tables.specs.declared.Message.{Message}
 use Rattle.tables.specs.declared.Message.TheVariants.{Empty, Reference, Release, Read, Answer, Ask, Supply}
-use Rattle.tables.specs.declared.Place.TheVariants.{At}
 use Rattle.tables.specs.Machine.{Machine, Tables}
-use Rattle.tables.specs.Parts.{is_free, is_var, is_val, has_caller, ex_names, is_live, entry_names, cell_of}
+use Rattle.tables.specs.Parts.{Holding, place, is_free, is_var, is_val, has_caller, ex_names, is_live, entry_names, cell_of}
 use Rattle.tables.specs.Look.{cell, entry, exported, message}
 use Rattle.states.specs.Chains.{ahead, LeadsTo}
 use Rattle.states.specs.Sound.{message_holds}
@@ -99,14 +97,14 @@ module _ (𝓜 : Machine) (s : Tables) (h : Move) (F : Facts 𝓜 s) (K : Keeps 
         same_context = λ w c l. continues w c (exported_by 𝓜 s w c l.number l.names) l.var_or_val;
       }
     where
-      place : LivePlace 𝓜 (next 𝓜 s h) (At o e)
-      place = live_place 𝓜 (next 𝓜 s h) o e live'
+      live_there : LivePlace 𝓜 (next 𝓜 s h) (place o e)
+      live_there = live_place 𝓜 (next 𝓜 s h) o e live'
 
-      steps : (w c : ℕ) (l : LeadsTo 𝓜 s (At o e) w c)
-          → (ahead 𝓜 (next 𝓜 s h) l.steps (At o e) ≡ At w l.number) × (entry_names c (entry 𝓜 (next 𝓜 s h) w l.number) ≡ true)
+      steps : (w c : ℕ) (l : LeadsTo 𝓜 s (place o e) w c)
+          → (ahead 𝓜 (next 𝓜 s h) l.steps (place o e) ≡ place w l.number) × (entry_names c (entry 𝓜 (next 𝓜 s h) w l.number) ≡ true)
       steps w c l =
-          let there = ahead_kept 𝓜 s h F K l.steps (At o e) w l.number place l.there in
-          let alive = ahead_place 𝓜 (next 𝓜 s h) (facts_kept 𝓜 s h F K) l.steps (At o e) place w l.number there in
+          let there = ahead_kept 𝓜 s h F K l.steps (place o e) w l.number live_there l.there in
+          let alive = ahead_place 𝓜 (next 𝓜 s h) (facts_kept 𝓜 s h F K) l.steps (place o e) live_there w l.number there in
           let y = the_entry_of c (entry 𝓜 s w l.number) l.names in
           let kept = live_kept 𝓜 s h F K w l.number (names_live_entry c (entry 𝓜 s w l.number) l.names) alive in
           let z = the_live (entry 𝓜 (next 𝓜 s h) w l.number) alive in

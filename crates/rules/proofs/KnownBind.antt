@@ -6,10 +6,8 @@ use mathlib.Core.Logic.{⊎_elim}
 use borrow.Author.Tests.{lt-leb}
 use Rattle.numbers.specs.Tests.{absurd_bool, or_else}
 use Rattle.tables.specs.declared.Kind.TheVariants.{Free, Val}
-use Rattle.tables.specs.declared.Place.{Place}
-use Rattle.tables.specs.declared.Place.TheVariants.{At}
 use Rattle.tables.specs.Machine.{Machine, Tables}
-use Rattle.tables.specs.Parts.{is_free, is_ex, entry_names}
+use Rattle.tables.specs.Parts.{Place, place, is_free, is_ex, entry_names}
 use Rattle.tables.specs.Look.{cell, entry, end_kind}
 use Rattle.states.specs.Chains.{entry_end, ahead, EndsIn}
 use Rattle.states.proofs.Named.{the_entry_of}
@@ -33,7 +31,7 @@ module _ (𝓜 : Machine) where
 
   -- a chain that leads to a value
   pub value_ends : (t : Tables) (w c v caller steps number : ℕ) (from : Place) → cell 𝓜 t w c ≡ Val v caller
-      → (ahead 𝓜 t steps from ≡ At w number) × (entry_names c (entry 𝓜 t w number) ≡ true) → EndsIn 𝓜 t from v
+      → (ahead 𝓜 t steps from ≡ place w number) × (entry_names c (entry 𝓜 t w number) ≡ true) → EndsIn 𝓜 t from v
   value_ends t w c v caller steps number from is there =
       let x = the_entry_of c (entry 𝓜 t w number) there.1 in
       record {

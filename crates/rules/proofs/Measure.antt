@@ -14,11 +14,10 @@ use Rattle.tables.specs.declared.Status.{Status}
 use Rattle.tables.specs.declared.Status.TheVariants.{Idle, Reading, Known}
 use Rattle.tables.specs.declared.Kind.{Kind}
 use Rattle.tables.specs.declared.Kind.TheVariants.{Free, Var, Val, Ref, Ex}
-use Rattle.tables.specs.declared.Place.{Place}
 use Rattle.tables.specs.declared.Message.{Message}
 use Rattle.tables.specs.declared.Message.TheVariants.{Empty, Reference, Release, Read, Answer, Ask, Supply}
 use Rattle.tables.specs.Machine.{Machine, Tables}
-use Rattle.tables.specs.Parts.{is_live}
+use Rattle.tables.specs.Parts.{Place, is_live}
 use Rattle.tables.specs.Look.{cell, entry, live_entries, message}
 use Rattle.rules.specs.Calls.{costs, B}
 use Rattle.states.specs.Machines.{Laws}

@@ -1,5 +1,6 @@
 -- Who pays: every cell that is not free leads to a context, whose caller pays; no call but a bind to an EX that is not known changes who pays for what
 -- stays; and it changes it for what leads to its cell alone. Assumes nothing.
+use Rattle.std.specs.Prelude.{None, Some}
 use Prim.Native.Nat.{ℕ, zero, suc, ◌+◌, ◌-◌, ◌≤◌, ◌<◌}
 use native.Mathlib.Omega.{arith}
 use native.Mathlib.Numerals.{add-one}
@@ -11,21 +12,17 @@ use borrow.Author.Tests.{eq-eqb}
 use Rattle.numbers.specs.Tests.{absurd_bool, or_else}
 use Rattle.tables.specs.declared.Kind.{Kind}
 use Rattle.tables.specs.declared.Kind.TheVariants.{Free, Var, Val, Ref, Ex}
-use Rattle.tables.specs.declared.Holding.{Holding}
-use Rattle.tables.specs.declared.Holding.TheVariants.{Unused, Live}
-use Rattle.tables.specs.declared.Place.{Place}
-use Rattle.tables.specs.declared.Place.TheVariants.{Nowhere, At}
 use Rattle.tables.specs.declared.Change.TheVariants.{OfCell}
 use Rattle.tables.specs.declared.Call.TheVariants.{Bind}
 use Rattle.tables.specs.Machine.{Machine, Tables}
-use Rattle.tables.specs.Parts.{is_free, is_var, is_val, caller_of, is_ex, is_known, ex_names, named_by, end_from, is_live, entry_names, cell_of}
+use Rattle.tables.specs.Parts.{Holding, Place, place, is_free, is_var, is_val, caller_of, is_ex, is_known, ex_names, named_by, end_from, is_live, entry_names, cell_of}
 use Rattle.tables.specs.Look.{cell, entry, end, end_kind, safe, exported, live_entries, put_cell, changed}
 use Rattle.states.specs.Machines.{Laws}
 use Rattle.states.specs.Chains.{entry_end, follow, ahead, LeadsTo}
 use Rattle.states.specs.Facts.{Facts}
 use Rattle.states.specs.Move.{Ranked, Invariant}
 use Rattle.states.proofs.Inside.{cell_inside}
-use Rattle.states.proofs.Named.{nowhere_at, named_ex, the_ex_of, the_entry_of, names_live_entry, the_live}
+use Rattle.states.proofs.Named.{nowhere_at, same_place, named_ex, the_ex_of, the_entry_of, names_live_entry, the_live}
 use Rattle.states.proofs.Walks.{ahead_nowhere, follow_live, follow_from}
 use Rattle.states.proofs.Busy.{exported_by}
 use Rattle.states.proofs.Derived.{live_fact, LivePlace, live_place, named_place, ahead_place, follow_place, names_live}
@@ -46,7 +43,7 @@ use Rattle.rules.proofs.Cells.{Becomes, looks_same, freed, new_var, new_ex, has_
 -- ---- one reference after the other
 module _ (𝓜 : Machine) (s : Tables) where
   -- where nothing is named, the cell's own caller pays, however many references may be followed
-  pays_own : (n : ℕ) (k : Kind) → named_by k ≡ Nowhere → pays_from 𝓜 s n k ≡ caller_of k
+  pays_own : (n : ℕ) (k : Kind) → named_by k ≡ None → pays_from 𝓜 s n k ≡ caller_of k
   unfolding pays_from
   pays_own zero k q = refl
   pays_own (suc n) Free q = refl
@@ -56,19 +53,19 @@ module _ (𝓜 : Machine) (s : Tables) where
   pays_own (suc n) (Ex o e w st a) q = nowhere_at (sym q)
 
   -- and else who pays from the end of the entry's cell that is named
-  pays_next : (n o e : ℕ) (k : Kind) → named_by k ≡ At o e → pays_from 𝓜 s (suc n) k ≡ pays_from 𝓜 s n (entry_end 𝓜 s o (entry 𝓜 s o e))
+  pays_next : (n o e : ℕ) (k : Kind) → named_by k ≡ place o e → pays_from 𝓜 s (suc n) k ≡ pays_from 𝓜 s n (entry_end 𝓜 s o (entry 𝓜 s o e))
   unfolding pays_from
   pays_next n o e k q = rw (named_ex o e k q).is refl
 
   -- a context is its own end, and names nothing
-  context_end : (v d : ℕ) → VarOrVal (cell 𝓜 s v d) → (end_kind 𝓜 s v d ≡ cell 𝓜 s v d) × (named_by (end_kind 𝓜 s v d) ≡ Nowhere)
+  context_end : (v d : ℕ) → VarOrVal (cell 𝓜 s v d) → (end_kind 𝓜 s v d ≡ cell 𝓜 s v d) × (named_by (end_kind 𝓜 s v d) ≡ None)
   context_end v d t =
       let r = var_val_end (cell 𝓜 s v d) d t in
       let own = end_self 𝓜 s v d (cell 𝓜 s v d) refl r.1 in
       (own, ap named_by own ∙ r.2)
 
   -- a chain from one step further on
-  leads_before : (o e a b v d : ℕ) → follow 𝓜 s (At o e) ≡ At a b → LeadsTo 𝓜 s (At a b) v d → LeadsTo 𝓜 s (At o e) v d
+  leads_before : (o e a b v d : ℕ) → follow 𝓜 s (place o e) ≡ place a b → LeadsTo 𝓜 s (place a b) v d → LeadsTo 𝓜 s (place o e) v d
   unfolding ahead
   leads_before o e a b v d q l =
       record { steps = suc l.steps; number = l.number; there = ap (ahead 𝓜 s l.steps) q ∙ l.there; names = l.names; var_or_val = l.var_or_val }
@@ -92,61 +89,60 @@ module _ (𝓜 : Machine) (s : Tables) where
 module _ (𝓜 : Machine) (s t : Tables) (v d : ℕ) (context : VarOrVal (cell 𝓜 s v d)) (entries : (a b : ℕ) → entry 𝓜 t a b ≡ entry 𝓜 s a b)
     (elsewhere : (a b : ℕ) → (v ≡ a → d ≡ b → ⊥) → end_kind 𝓜 t a b ≡ end_kind 𝓜 s a b) where
   -- a cell whose end names an entry is another cell
-  names_same : (a b o e : ℕ) → named_by (end_kind 𝓜 s a b) ≡ At o e → end_kind 𝓜 t a b ≡ end_kind 𝓜 s a b
+  names_same : (a b o e : ℕ) → named_by (end_kind 𝓜 s a b) ≡ place o e → end_kind 𝓜 t a b ≡ end_kind 𝓜 s a b
   names_same a b o e q =
       elsewhere a b (λ i j. nowhere_at (sym (context_end 𝓜 s v d context).1 ∙ ap₂ (λ (x y : ℕ). named_by (end_kind 𝓜 s x y)) i j ∙ q))
 
   -- from what leads to the context in s, one pays in t as from the end of its cell
-  leads_pays : (m n number o e : ℕ) (k : Kind) → named_by k ≡ At o e → ahead 𝓜 s m (At o e) ≡ At v number → entry_names d (entry 𝓜 s v number) ≡ true
+  leads_pays : (m n number o e : ℕ) (k : Kind) → named_by k ≡ place o e → ahead 𝓜 s m (place o e) ≡ place v number → entry_names d (entry 𝓜 s v number) ≡ true
       → pays_from 𝓜 t (n + suc m) k ≡ pays_from 𝓜 t n (end_kind 𝓜 t v d)
   unfolding ahead
   leads_pays zero n number o e k q there names =
-      let owner : o ≡ v = cc in
-      let same : e ≡ number = cc in
+      let here = same_place there in
       let x = the_entry_of d (entry 𝓜 s v number) names in
       ap (λ (i : ℕ). pays_from 𝓜 t i k) (add-one n)
       ∙ pays_next 𝓜 t n o e k q
-      ∙ ap (pays_from 𝓜 t n) (rw (owner, same, entries v number, x.is) refl)
-  leads_pays (suc m) n number o e k q there names = go (follow 𝓜 s (At o e)) refl (leads_pays m n number)
+      ∙ ap (pays_from 𝓜 t n) (rw (here.0, here.1, entries v number, x.is) refl)
+  leads_pays (suc m) n number o e k q there names = go (follow 𝓜 s (place o e)) refl (leads_pays m n number)
     where
-      go : (p : Place) → follow 𝓜 s (At o e) ≡ p
-          → ((a b : ℕ) (j : Kind) → named_by j ≡ At a b → ahead 𝓜 s m (At a b) ≡ At v number → entry_names d (entry 𝓜 s v number) ≡ true
+      go : (p : Place) → follow 𝓜 s (place o e) ≡ p
+          → ((a b : ℕ) (j : Kind) → named_by j ≡ place a b → ahead 𝓜 s m (place a b) ≡ place v number → entry_names d (entry 𝓜 s v number) ≡ true
           → pays_from 𝓜 t (n + suc m) j ≡ pays_from 𝓜 t n (end_kind 𝓜 t v d))
           → pays_from 𝓜 t (n + suc (suc m)) k ≡ pays_from 𝓜 t n (end_kind 𝓜 t v d)
-      go Nowhere i rec = nowhere_at (sym (ahead_nowhere 𝓜 s m) ∙ sym (ap (ahead 𝓜 s m) i) ∙ there)
-      go (At a b) i rec =
-          let l = follow_from 𝓜 s o e a b i in
-          let names_next : named_by (end_kind 𝓜 s o l.cell) ≡ At a b = sym (follow_live 𝓜 s o e l.is) ∙ i in
-          let now = ap (entry_end 𝓜 t o) (entries o e ∙ l.is) ∙ names_same o l.cell a b names_next in
+      go None i rec = nowhere_at (sym (ahead_nowhere 𝓜 s m) ∙ sym (ap (ahead 𝓜 s m) i) ∙ there)
+      go (Some p) i rec =
+          let l = follow_from 𝓜 s o e p.owner p.entry i in
+          let names_next : named_by (end_kind 𝓜 s o l.cell) ≡ place p.owner p.entry = sym (follow_live 𝓜 s o e l.is) ∙ i in
+          let now = ap (entry_end 𝓜 t o) (entries o e ∙ l.is) ∙ names_same o l.cell p.owner p.entry names_next in
           ap (λ (i : ℕ). pays_from 𝓜 t i k) (add-suc n (suc m))
           ∙ pays_next 𝓜 t (n + suc m) o e k q
-          ∙ rec a b (entry_end 𝓜 t o (entry 𝓜 t o e)) (ap named_by now ∙ names_next) (sym (ap (ahead 𝓜 s m) i) ∙ there) names
+          ∙ rec p.owner p.entry (entry_end 𝓜 t o (entry 𝓜 t o e)) (ap named_by now ∙ names_next) (sym (ap (ahead 𝓜 s m) i) ∙ there) names
 
   -- from what does not lead there, as in s
-  apart_pays : (n : ℕ) (k : Kind) → ((o e : ℕ) → named_by k ≡ At o e → LeadsTo 𝓜 s (At o e) v d → ⊥) → pays_from 𝓜 t n k ≡ pays_from 𝓜 s n k
+  apart_pays : (n : ℕ) (k : Kind) → ((o e : ℕ) → named_by k ≡ place o e → LeadsTo 𝓜 s (place o e) v d → ⊥) → pays_from 𝓜 t n k ≡ pays_from 𝓜 s n k
   unfolding pays_from ahead
   apart_pays zero k apart = refl
   apart_pays (suc n) k apart = go (named_by k) refl (apart_pays n)
     where
       go : (p : Place) → named_by k ≡ p
-          → ((j : Kind) → ((o e : ℕ) → named_by j ≡ At o e → LeadsTo 𝓜 s (At o e) v d → ⊥) → pays_from 𝓜 t n j ≡ pays_from 𝓜 s n j)
+          → ((j : Kind) → ((o e : ℕ) → named_by j ≡ place o e → LeadsTo 𝓜 s (place o e) v d → ⊥) → pays_from 𝓜 t n j ≡ pays_from 𝓜 s n j)
           → pays_from 𝓜 t (suc n) k ≡ pays_from 𝓜 s (suc n) k
-      go Nowhere q rec = pays_own 𝓜 t (suc n) k q ∙ sym (pays_own 𝓜 s (suc n) k q)
-      go (At o e) q rec = pays_next 𝓜 t n o e k q ∙ by (entry 𝓜 s o e) refl ∙ sym (pays_next 𝓜 s n o e k q)
+      go None q rec = pays_own 𝓜 t (suc n) k q ∙ sym (pays_own 𝓜 s (suc n) k q)
+      go (Some p) q rec = pays_next 𝓜 t n p.owner p.entry k q ∙ by (entry 𝓜 s p.owner p.entry) refl ∙ sym (pays_next 𝓜 s n p.owner p.entry k q)
         where
-          by : (x : Holding) → entry 𝓜 s o e ≡ x → pays_from 𝓜 t n (entry_end 𝓜 t o (entry 𝓜 t o e)) ≡ pays_from 𝓜 s n (entry_end 𝓜 s o (entry 𝓜 s o e))
-          by Unused i = rw (entries o e, i) (rec Free (λ a b j. nowhere_at j))
-          by (Live c w u) i = rw (entries o e, i) (⊎_elim here there (spot v d o c))
+          by : (x : Holding) → entry 𝓜 s p.owner p.entry ≡ x → pays_from 𝓜 t n (entry_end 𝓜 t p.owner (entry 𝓜 t p.owner p.entry)) ≡ pays_from 𝓜 s n (entry_end 𝓜 s p.owner (entry 𝓜 s p.owner p.entry))
+          by None i = rw (entries p.owner p.entry, i) (rec Free (λ a b j. nowhere_at j))
+          by (Some x) i = rw (entries p.owner p.entry, i) (⊎_elim here there (spot v d p.owner x.cell))
             where
-              here : (v ≡ o) × (d ≡ c) → pays_from 𝓜 t n (end_kind 𝓜 t o c) ≡ pays_from 𝓜 s n (end_kind 𝓜 s o c)
+              here : (v ≡ p.owner) × (d ≡ x.cell) → pays_from 𝓜 t n (end_kind 𝓜 t p.owner x.cell) ≡ pays_from 𝓜 s n (end_kind 𝓜 s p.owner x.cell)
               here j =
-                  let names : entry_names d (entry 𝓜 s v e) ≡ true = rw (j.0, i) (eq-eqb c d (sym j.1)) in
-                  absurd (apart o e q (record { steps = 0; number = e; there = ap (λ (y : ℕ). At y e) (sym j.0); names = names; var_or_val = context }))
+                  let names : entry_names d (entry 𝓜 s v p.entry) ≡ true = rw (j.0, i) (eq-eqb x.cell d (sym j.1)) in
+                  absurd (apart p.owner p.entry q (record { steps = 0; number = p.entry; there = ap (λ (y : ℕ). place y p.entry) (sym j.0); names = names; var_or_val = context }))
 
-              there : (v ≡ o → d ≡ c → ⊥) → pays_from 𝓜 t n (end_kind 𝓜 t o c) ≡ pays_from 𝓜 s n (end_kind 𝓜 s o c)
+              there : (v ≡ p.owner → d ≡ x.cell → ⊥) → pays_from 𝓜 t n (end_kind 𝓜 t p.owner x.cell) ≡ pays_from 𝓜 s n (end_kind 𝓜 s p.owner x.cell)
               there f =
-                  ap (pays_from 𝓜 t n) (elsewhere o c f)
-                  ∙ rec (end_kind 𝓜 s o c) (λ a b j l. apart o e q (leads_before 𝓜 s o e a b v d (follow_live 𝓜 s o e i ∙ j) l))
+                  ap (pays_from 𝓜 t n) (elsewhere p.owner x.cell f)
+                  ∙ rec (end_kind 𝓜 s p.owner x.cell) (λ a b j l. apart p.owner p.entry q (leads_before 𝓜 s p.owner p.entry a b v d (follow_live 𝓜 s p.owner p.entry i ∙ j) l))
 
 -- ---- in a reached state
 module _ (𝓜 : Machine) (L : Laws 𝓜) (s : Tables) (I : Invariant 𝓜 s) where
@@ -154,7 +150,7 @@ module _ (𝓜 : Machine) (L : Laws 𝓜) (s : Tables) (I : Invariant 𝓜 s) wh
   pub comes_to_context : (o e : ℕ) → is_live (entry 𝓜 s o e) ≡ true → ComesToAnEnd 𝓜 s o e
   comes_to_context o e live =
       let x = comes_to_end 𝓜 L s I.facts I.rank I.ranked o e live in
-      let last = ahead_place 𝓜 s I.facts x.steps (At o e) (live_place 𝓜 s o e live) x.owner x.number x.there in
+      let last = ahead_place 𝓜 s I.facts x.steps (place o e) (live_place 𝓜 s o e live) x.owner x.number x.there in
       let own = own_context 𝓜 s I.facts x.owner x.number last x.end_plain in
       record {
         worker = x.owner;
@@ -164,7 +160,7 @@ module _ (𝓜 : Machine) (L : Laws 𝓜) (s : Tables) (I : Invariant 𝓜 s) wh
       }
 
   -- a context pays for all that leads to it, where references enough may be followed
-  leads_caller : (o e v d n : ℕ) (k : Kind) → named_by k ≡ At o e → (l : LeadsTo 𝓜 s (At o e) v d) → l.steps < n → pays_from 𝓜 s n k ≡ caller_of (cell 𝓜 s v d)
+  leads_caller : (o e v d n : ℕ) (k : Kind) → named_by k ≡ place o e → (l : LeadsTo 𝓜 s (place o e) v d) → l.steps < n → pays_from 𝓜 s n k ≡ caller_of (cell 𝓜 s v d)
   leads_caller o e v d n k q l more =
       let rest = n - suc l.steps in
       let own = context_end 𝓜 s v d l.var_or_val in
@@ -187,11 +183,11 @@ module _ (𝓜 : Machine) (L : Laws 𝓜) (s : Tables) (I : Invariant 𝓜 s) wh
       k = end_kind 𝓜 s w c
 
       go : (p : Place) → named_by k ≡ p → pays_from 𝓜 s n k ≡ payer 𝓜 s w c
-      go Nowhere q = pays_own 𝓜 s n k q ∙ sym (pays_own 𝓜 s _ k q)
-      go (At o e) q =
-          let x = comes_to_context o e (end_place w c o e q) in
-          leads_caller o e x.worker x.number n k q x.leads (omega (arith, x.few))
-          ∙ sym (leads_caller o e x.worker x.number _ k q x.leads (omega (arith, x.few)))
+      go None q = pays_own 𝓜 s n k q ∙ sym (pays_own 𝓜 s _ k q)
+      go (Some p) q =
+          let x = comes_to_context p.owner p.entry (end_place w c p.owner p.entry q) in
+          leads_caller p.owner p.entry x.worker x.number n k q x.leads (omega (arith, x.few))
+          ∙ sym (leads_caller p.owner p.entry x.worker x.number _ k q x.leads (omega (arith, x.few)))
 
   -- the context that a cell leads to pays
   pub context_pays : (w c v d : ℕ) → CellLeadsTo 𝓜 s w c v d → payer 𝓜 s w c ≡ caller_of (cell 𝓜 s v d)
@@ -295,12 +291,12 @@ module _ (𝓜 : Machine) (L : Laws 𝓜) (s t : Tables) (I : Invariant 𝓜 s) 
         go : (p : Place) → named_by k ≡ p
             → ((j j' : Kind) → Alike j j' → LivePlace 𝓜 s (named_by j) → LivePlace 𝓜 t (named_by j') → pays_from 𝓜 t n j' ≡ pays_from 𝓜 s n j)
             → pays_from 𝓜 t (suc n) k' ≡ pays_from 𝓜 s (suc n) k
-        go Nowhere q rec = pays_own 𝓜 t (suc n) k' (alike.names ∙ q) ∙ alike.caller ∙ sym (pays_own 𝓜 s (suc n) k q)
-        go (At o e) q rec =
-            pays_next 𝓜 t n o e k' (alike.names ∙ q)
-            ∙ rec (entry_end 𝓜 s o (entry 𝓜 s o e)) (entry_end 𝓜 t o (entry 𝓜 t o e)) (entries_alike o e (l o e q) (l' o e (alike.names ∙ q)))
-            (follow_place 𝓜 s I.facts (At o e)) (follow_place 𝓜 t J.facts (At o e))
-            ∙ sym (pays_next 𝓜 s n o e k q)
+        go None q rec = pays_own 𝓜 t (suc n) k' (alike.names ∙ q) ∙ alike.caller ∙ sym (pays_own 𝓜 s (suc n) k q)
+        go (Some p) q rec =
+            pays_next 𝓜 t n p.owner p.entry k' (alike.names ∙ q)
+            ∙ rec (entry_end 𝓜 s p.owner (entry 𝓜 s p.owner p.entry)) (entry_end 𝓜 t p.owner (entry 𝓜 t p.owner p.entry)) (entries_alike p.owner p.entry (l p.owner p.entry q) (l' p.owner p.entry (alike.names ∙ q)))
+            (follow_place 𝓜 s I.facts (place p.owner p.entry)) (follow_place 𝓜 t J.facts (place p.owner p.entry))
+            ∙ sym (pays_next 𝓜 s n p.owner p.entry k q)
 
     pub keeps_payers : KeepsPayers 𝓜 s t
     keeps_payers = record { of_cell = of_cell; of_entry = of_entry; of_reference = of_reference }
@@ -328,17 +324,16 @@ module _ (𝓜 : Machine) (L : Laws 𝓜) (s t : Tables) (I : Invariant 𝓜 s) 
 
 -- ---- a bind that makes a REF
 -- the rank does not rise along a chain
-ahead_falls : (𝓜 : Machine) (s : Tables) (r : ℕ → ℕ → ℕ) → Ranked 𝓜 s r → (n o e a b : ℕ) → ahead 𝓜 s n (At o e) ≡ At a b → r a b ≤ r o e
+ahead_falls : (𝓜 : Machine) (s : Tables) (r : ℕ → ℕ → ℕ) → Ranked 𝓜 s r → (n o e a b : ℕ) → ahead 𝓜 s n (place o e) ≡ place a b → r a b ≤ r o e
 unfolding ahead
 ahead_falls 𝓜 s r R zero o e a b q =
-    let owner : o ≡ a = cc in
-    let number : e ≡ b = cc in
-    rw (owner, number) (omega arith)
-ahead_falls 𝓜 s r R (suc n) o e a b q = go (follow 𝓜 s (At o e)) refl (ahead_falls 𝓜 s r R n)
+    let same = same_place q in
+    rw (same.0, same.1) (omega arith)
+ahead_falls 𝓜 s r R (suc n) o e a b q = go (follow 𝓜 s (place o e)) refl (ahead_falls 𝓜 s r R n)
   where
-    go : (p : Place) → follow 𝓜 s (At o e) ≡ p → ((x y a b : ℕ) → ahead 𝓜 s n (At x y) ≡ At a b → r a b ≤ r x y) → r a b ≤ r o e
-    go Nowhere i rec = nowhere_at (sym (ahead_nowhere 𝓜 s n) ∙ sym (ap (ahead 𝓜 s n) i) ∙ q)
-    go (At x y) i rec = omega (arith, rec x y a b (sym (ap (ahead 𝓜 s n) i) ∙ q), R.falls o e x y i)
+    go : (p : Place) → follow 𝓜 s (place o e) ≡ p → ((x y a b : ℕ) → ahead 𝓜 s n (place x y) ≡ place a b → r a b ≤ r x y) → r a b ≤ r o e
+    go None i rec = nowhere_at (sym (ahead_nowhere 𝓜 s n) ∙ sym (ap (ahead 𝓜 s n) i) ∙ q)
+    go (Some p) i rec = omega (arith, rec p.owner p.entry a b (sym (ap (ahead 𝓜 s n) i) ∙ q), R.falls o e p.owner p.entry i)
 
 -- the VAR c of worker w becomes a REF to the end of x, an EX, and a safe one where c is exported
 module _ (𝓜 : Machine) (L : Laws 𝓜) (s : Tables) (I : Invariant 𝓜 s) (w c x caller : ℕ) (var : cell 𝓜 s w c ≡ Var caller) (ex : is_ex (end_kind 𝓜 s w x) ≡ true)
@@ -377,7 +372,7 @@ module _ (𝓜 : Machine) (L : Laws 𝓜) (s : Tables) (I : Invariant 𝓜 s) (w
       ∙ stored.there w (end 𝓜 s w x) (λ i j. absurd_bool ex (ap is_ex (ap (cell 𝓜 s w) (sym j) ∙ var)))
 
   -- which does not lead back to it, since an exported VAR is bound to a safe EX alone
-  not_back : (o e : ℕ) → named_by (end_kind 𝓜 s w x) ≡ At o e → LeadsTo 𝓜 s (At o e) w c → ⊥
+  not_back : (o e : ℕ) → named_by (end_kind 𝓜 s w x) ≡ place o e → LeadsTo 𝓜 s (place o e) w c → ⊥
   not_back o e q l =
       let z = safe_ex 𝓜 s w o e (end_kind 𝓜 s w x) (guarded (exported_by 𝓜 s w c l.number l.names)) q in
       let own = I.ranked.own o e (end_place 𝓜 L s I w x o e q) z.1 in

@@ -13,13 +13,11 @@ use Rattle.tables.specs.declared.Status.{Status}
 use Rattle.tables.specs.declared.Status.TheVariants.{Idle, Reading, Known}
 use Rattle.tables.specs.declared.Kind.{Kind}
 use Rattle.tables.specs.declared.Kind.TheVariants.{Free, Var, Val, Ref, Ex}
-use Rattle.tables.specs.declared.Holding.{Holding}
-use Rattle.tables.specs.declared.Holding.TheVariants.{Unused, Live}
 use Rattle.tables.specs.declared.Message.{Message}
 use Rattle.tables.specs.declared.Message.TheVariants.{Empty, Reference, Read, Ask}
 use Rattle.tables.specs.declared.Effect.{Effect}
 use Rattle.tables.specs.Machine.{Machine, Tables}
-use Rattle.tables.specs.Parts.{is_free, is_var, is_val, is_ex, is_asking, ex_names, named_by, ex_weight, end_from, is_live, is_tainted, entry_names, entry_weight, cell_of, reading_of, goes_to}
+use Rattle.tables.specs.Parts.{Holding, live, is_free, is_var, is_val, is_ex, is_asking, ex_names, named_by, ex_weight, end_from, is_live, is_tainted, entry_names, entry_weight, cell_of, reading_of, goes_to}
 use Rattle.tables.specs.Look.{cell, entry, end, end_kind, safe, entry_of, exported, lowest_free_entry, lowest_empty_slot, booked, free_cells, room, put_cell, put_entry, put_message, changed}
 use Rattle.rules.specs.Answers.{Check, checked, made}
 use Rattle.states.specs.Sound.{var_val_or_safe, sound, reads_for, asks_for, message_holds}
@@ -40,6 +38,7 @@ use Rattle.states.proofs.Moves.{cell_move, cell_placed, entry_placed, stores_ex,
 use Rattle.rules.proofs.Steps.{makes_checked, not-false, cond_add, free_entry, empty_slot, has_room_lem, room_sent, makes_by, mark_cond}
 use Rattle.rules.proofs.Local.{worker_used, weight_some}
 use Rattle.states.proofs.Entries.{entry_next}
+use Rattle.std.specs.Prelude.{None}
 
 module _ (𝓜 : Machine) (L : Laws 𝓜) (s : Tables) (F : Facts 𝓜 s) where
   -- ---- by location: the cell x of worker w, whose end is itself; no refusal applies
@@ -62,12 +61,12 @@ module _ (𝓜 : Machine) (L : Laws 𝓜) (s : Tables) (F : Facts 𝓜 s) where
     located : (e : ℕ) (x₀ : Holding) (n : ℕ) (t : Bool) → e < 𝓜.entries → entry 𝓜 s w e ≡ x₀ → entry_weight x₀ + 𝓜.first_weight ≡ n → n ≤ 𝓜.ceiling
         → (t ≡ false → var_val_or_safe 𝓜 s w (end_kind 𝓜 s w x) ≡ true) → (is_live x₀ ≡ true → (x ≡ cell_of x₀) × (t ≡ is_tainted x₀))
         → ((f d : ℕ) → eqb x d ≡ true → entry_names d (entry 𝓜 s w f) ≡ true → f ≡ e)
-        → Makes 𝓜 s (put_message (put_entry 𝓜 s w e (Live x n t)) (lowest_empty_slot 𝓜 s) (sent e))
+        → Makes 𝓜 s (put_message (put_entry 𝓜 s w e (live x n t)) (lowest_empty_slot 𝓜 s) (sent e))
     located e x₀ n t e_in q more small good kept new =
         let w_in = (worker_used 𝓜 L s F w l.w_used).1 in
         let free = empty_slot 𝓜 L s F l.slot in
         let some : 1 ≤ n = omega (arith, L.first_some) in
-        makes_by 𝓜 s (stores_entry 𝓜 L s F w e x₀ (Live x n t) (lowest_empty_slot 𝓜 s) Empty (sent e)
+        makes_by 𝓜 s (stores_entry 𝓜 L s F w e x₀ (live x n t) (lowest_empty_slot 𝓜 s) Empty (sent e)
         (record {
           o_in = w_in;
           e_in = e_in;
@@ -108,13 +107,13 @@ module _ (𝓜 : Machine) (L : Laws 𝓜) (s : Tables) (F : Facts 𝓜 s) where
             let n = y.weight in
             let fact = live_fact 𝓜 s F w e (record { cell = x; weight = n; tainted = y.tainted; is = y.is }) in
             rw y.is
-            (located e (Live x n y.tainted) (n + 𝓜.first_weight) y.tainted (leb-false 𝓜.entries e more) y.is refl
+            (located e (live x n y.tainted) (n + 𝓜.first_weight) y.tainted (leb-false 𝓜.entries e more) y.is refl
             (omega (arith, ap entry_weight y.is)) fact.3 (λ a. (refl, refl)) (λ f d t u. F.entry_once w f e d u (ap (entry_names d) y.is ∙ t)))
         go false ex more below =
             let e = lowest_free_entry 𝓜 s w in
             let free = free_entry 𝓜 L s F w more in
             rw free.1
-            (located e Unused 𝓜.first_weight taint free.0 free.1 (omega arith) (omega (arith, ap entry_weight free.1))
+            (located e None 𝓜.first_weight taint free.0 free.1 (omega arith) (omega (arith, ap entry_weight free.1))
             (λ u. ap (var_val_or_safe 𝓜 s w) l.own_end.1 ∙ l.good u) (λ a. absurd_bool a refl)
             (λ f d t u. absurd_bool (rw (eqb-true x d t) u) (not_exported 𝓜 s w x ex f)))
 

@@ -14,15 +14,13 @@ use Rattle.tables.specs.declared.Status.{Status}
 use Rattle.tables.specs.declared.Status.TheVariants.{Idle, Reading, Known}
 use Rattle.tables.specs.declared.Kind.{Kind}
 use Rattle.tables.specs.declared.Kind.TheVariants.{Free, Var, Val, Ref, Ex}
-use Rattle.tables.specs.declared.Holding.{Holding}
-use Rattle.tables.specs.declared.Holding.TheVariants.{Unused, Live}
 use Rattle.tables.specs.declared.Message.{Message}
 use Rattle.tables.specs.declared.Message.TheVariants.{Empty, Reference, Release, Read, Answer, Ask, Supply}
 use Rattle.tables.specs.declared.Refusal.{Refusal}
 use Rattle.tables.specs.declared.Outcome.TheVariants.{Refused}
 use Rattle.tables.specs.declared.Effect.{Effect}
 use Rattle.tables.specs.Machine.{Machine, Tables}
-use Rattle.tables.specs.Parts.{is_free, is_var, is_ex, is_reading, is_known, is_asking, is_unused, is_empty, goes_to}
+use Rattle.tables.specs.Parts.{Holding, is_free, is_var, is_ex, is_reading, is_known, is_asking, is_unused, is_empty, goes_to}
 use Rattle.tables.specs.Look.{cell, entry, end, end_kind, safe, entry_of, exported, referred, busy, lowest_free_cell, lowest_free_entry, lowest_empty_slot, booked, free_cells, message, changed}
 use Rattle.rules.specs.Answers.{Check, ◌when◌, answered, refuse, checked}
 use Rattle.rules.specs.Refusals.{bind_refusals}
@@ -35,6 +33,7 @@ use Rattle.states.proofs.Busy.{own_entry, naming_ref, not_busy}
 use Rattle.states.proofs.Derived.{bit_one, live_fact, cell_fact}
 use Rattle.states.specs.Move.{ReadsOn, TrueValues, Carries, Makes, nothing, moved}
 use Rattle.states.proofs.Moves.{Stores}
+use Rattle.std.specs.Prelude.{None, Some}
 
 -- ---- what holds of every refusal, and of what is done once all are passed, holds of what a call gives
 pub checked_is : (P : Effect → Type 0) (l : List Check) (d : Effect) → ((why : Refusal) → P (answered (Refused why))) → (Passed l → P d) → P (checked l d)
@@ -70,9 +69,9 @@ var_is (Val n caller) t = absurd_bool t refl
 var_is (Ref d) t = absurd_bool t refl
 var_is (Ex o e n st a) t = absurd_bool t refl
 
-pub unused_is : (x : Holding) → is_unused x ≡ true → x ≡ Unused
-unused_is Unused t = refl
-unused_is (Live c n u) t = absurd_bool t refl
+pub unused_is : (x : Holding) → is_unused x ≡ true → x ≡ None
+unused_is None t = refl
+unused_is (Some l) t = absurd_bool t refl
 
 pub empty_is : (m : Message) → is_empty m ≡ true → m ≡ Empty
 empty_is Empty t = refl
@@ -130,7 +129,7 @@ module _ (𝓜 : Machine) (L : Laws 𝓜) (s : Tables) (F : Facts 𝓜 s) where
       (less, free_is (cell 𝓜 s w (lowest_free_cell 𝓜 s w)) (lowest_at 𝓜.cells free less))
 
   pub free_entry : (w : ℕ) → leb 𝓜.entries (lowest_free_entry 𝓜 s w) ≡ false
-      → (lowest_free_entry 𝓜 s w < 𝓜.entries) × (entry 𝓜 s w (lowest_free_entry 𝓜 s w) ≡ Unused)
+      → (lowest_free_entry 𝓜 s w < 𝓜.entries) × (entry 𝓜 s w (lowest_free_entry 𝓜 s w) ≡ None)
   unfolding lowest_free_entry
   free_entry w h =
       let less = leb-false 𝓜.entries (lowest_free_entry 𝓜 s w) h in

@@ -15,17 +15,14 @@ use Rattle.tables.specs.declared.Status.{Status}
 use Rattle.tables.specs.declared.Status.TheVariants.{Idle, Reading, Known}
 use Rattle.tables.specs.declared.Kind.{Kind}
 use Rattle.tables.specs.declared.Kind.TheVariants.{Val, Ex}
-use Rattle.tables.specs.declared.Holding.{Holding}
-use Rattle.tables.specs.declared.Holding.TheVariants.{Unused, Live}
 use Rattle.tables.specs.declared.Message.{Message}
 use Rattle.tables.specs.declared.Message.TheVariants.{Empty, Reference, Release, Read, Answer, Ask, Supply}
-use Rattle.tables.specs.declared.Place.TheVariants.{At}
 use Rattle.tables.specs.declared.Outcome.TheVariants.{Done}
 use Rattle.tables.specs.declared.Call.{Call}
 use Rattle.tables.specs.declared.Call.TheVariants.{Start, New, Set, Bind, Export, Indirect, Transfer, Drop, ReadCell, AskWeight, Deliver, Bound}
 use Rattle.tables.specs.declared.Effect.{Effect}
 use Rattle.tables.specs.Machine.{Machine, Tables}
-use Rattle.tables.specs.Parts.{is_free, is_var, is_val, caller_of, is_reading, named_by, is_live, entry_weight, is_empty}
+use Rattle.tables.specs.Parts.{Holding, place, is_free, is_var, is_val, caller_of, is_reading, named_by, is_live, entry_weight, is_empty}
 use Rattle.tables.specs.Look.{cell, entry, message, put_cell, changed}
 use Rattle.rules.specs.Answers.{Result, answered, made, succeeds, checked}
 use Rattle.states.specs.Sound.{reads_for, reads_of, held, sound}
@@ -56,6 +53,7 @@ use Rattle.rules.proofs.Begun.{start_free, start_invariant}
 use Rattle.rules.proofs.Chains.{ends_one, on_chain}
 use Rattle.rules.proofs.Payers.{comes_to_context, context_pays, cell_is_paid, keeps_payers, bind_moves_payers}
 use Rattle.rules.proofs.KnownBind.{known_bind_is_done, value_ends}
+use Rattle.std.specs.Prelude.{None, Some}
 
 -- ---- every sequence
 module _ (𝓜 : Machine) where
@@ -144,8 +142,8 @@ module _ (𝓜 : Machine) (L : Laws 𝓜) where
       I = reached_invariant s r
 
       go : (x : Holding) → EntryFact 𝓜 s w x → entry_weight x ≡ held 𝓜 s w e → is_live x ≡ not (eqb (held 𝓜 s w e) 0)
-      go Unused f q = sym (ap not (eq-eqb (held 𝓜 s w e) 0 (sym q)))
-      go (Live c n t) f q = sym (ap not (ne_eqb (held 𝓜 s w e) 0 (λ z. omega (arith, f.1))))
+      go None f q = sym (ap not (eq-eqb (held 𝓜 s w e) 0 (sym q)))
+      go (Some l) f q = sym (ap not (ne_eqb (held 𝓜 s w e) 0 (λ z. omega (arith, f.1))))
 
   -- ---- one delivery: refused where the slot holds no ready message, and else the message arrives
   message_done : (s : Tables) (k : ℕ) (m : Message) → succeeds (deliver_message 𝓜 s k m).outcome ≡ true
@@ -253,7 +251,7 @@ module _ (𝓜 : Machine) (L : Laws 𝓜) where
   -- ---- a read on a chain that ends in a value brings it
   -- an EX that is reading, on a chain that ends in v, or is known with v
   pub data Told (s : Tables) (w c o e v : ℕ) : Type 0 where
-    reads_on : (n : ℕ) (a : Bool) → cell 𝓜 s w c ≡ Ex o e n Reading a → EndsIn 𝓜 s (At o e) v → Told s w c o e v
+    reads_on : (n : ℕ) (a : Bool) → cell 𝓜 s w c ≡ Ex o e n Reading a → EndsIn 𝓜 s (place o e) v → Told s w c o e v
     already_known : (n : ℕ) (a : Bool) → cell 𝓜 s w c ≡ Ex o e n (Known v) a → Told s w c o e v
 
   told_next : (s t : Tables) (r : ℕ → ℕ → ℕ) (w c o e v : ℕ) → Arrived 𝓜 s r t → Told s w c o e v → Told t w c o e v
@@ -262,9 +260,9 @@ module _ (𝓜 : Machine) (L : Laws 𝓜) where
       y : ExOn o e Reading (cell 𝓜 t w c)
       y = subst (λ (k : Kind). KindOn k (cell 𝓜 t w c)) q (x.on w c)
 
-      there : EndsIn 𝓜 t (At o e) v
+      there : EndsIn 𝓜 t (place o e) v
       there =
-          x.ends (At o e) v
+          x.ends (place o e) v
           (subst (LivePlace 𝓜 t) (ap named_by y.is) (named_place 𝓜 t x.invariant.facts w c))
           ends
 
@@ -272,8 +270,8 @@ module _ (𝓜 : Machine) (L : Laws 𝓜) where
       by Idle i on = absurd on
       by Reading i on = reads_on y.weight y.asking i there
       by (Known u) i on =
-          let true_end : EndsIn 𝓜 t (At o e) u = subst (KnownFact 𝓜 t) i (x.invariant.known.exes w c) in
-          let same = ends_one 𝓜 t (At o e) u v true_end there in
+          let true_end : EndsIn 𝓜 t (place o e) u = subst (KnownFact 𝓜 t) i (x.invariant.known.exes w c) in
+          let same = ends_one 𝓜 t (place o e) u v true_end there in
           already_known y.weight y.asking (i ∙ ap (λ (z : ℕ). Ex o e y.weight (Known z) y.asking) same)
   told_next s t r w c o e v x (already_known n a q) = by y.status y.is y.on
     where
@@ -319,9 +317,9 @@ module _ (𝓜 : Machine) (L : Laws 𝓜) where
           go true f u =
               let same = both_eq r w d c f in
               let at : (m : ℕ) × ReadAhead 𝓜 s m (Read r d o' e') = rw i at (I.reads k) in
-              let from : named_by (cell 𝓜 s r d) ≡ At o e = rw (same.0, same.1, q) in
-              let there : ahead 𝓜 s at.0 (At o e) ≡ At o' e' = sym (ap (ahead 𝓜 s at.0) from) ∙ at.1 in
-              on_chain 𝓜 s (At o e) at.0 v o' e' ends there (unbound_left s (Read r d o' e') (rw i at (rest k)))
+              let from : named_by (cell 𝓜 s r d) ≡ place o e = rw (same.0, same.1, q) in
+              let there : ahead 𝓜 s at.0 (place o e) ≡ place o' e' = sym (ap (ahead 𝓜 s at.0) from) ∙ at.1 in
+              on_chain 𝓜 s (place o e) at.0 v o' e' ends there (unbound_left s (Read r d o' e') (rw i at (rest k)))
       pending k (Answer r d u) i t = absurd_bool refl (rw i at (rest k))
       pending k (Ask x d o' e') i t = omega arith
       pending k (Supply x d u) i t = omega arith
@@ -358,7 +356,7 @@ module _ (𝓜 : Machine) (L : Laws 𝓜) where
         ends_there =
             λ i j live l.
             let live' = ap (λ (u : Tables). is_live (entry 𝓜 u i j)) next ∙ ap is_live (put_entries 𝓜 s w c (Val v caller) i j) ∙ live in
-            value_ends 𝓜 t w c v caller l.steps l.number (At i j) is ((keeps_context s r q refl i j live live').same_steps w c l);
+            value_ends 𝓜 t w c v caller l.steps l.number (place i j) is ((keeps_context s r q refl i j live live').same_steps w c l);
         own_caller_pays =
             context_pays 𝓜 L t (reached_invariant t (after r q refl)) w c w c (itself refl refl (ap (λ (k : Kind). is_var k || is_val k) is)) ∙ ap caller_of is;
       }

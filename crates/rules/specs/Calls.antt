@@ -1,12 +1,10 @@
 -- "Calls": what each does, but for deliver. A call is its refusals in order, and else its answer and what it changes. Assumes nothing.
-use Rattle.std.specs.Prelude.{ℕ, ◌+◌, ◌-◌, ◌*◌, Bool, true, false, not, cond, replicate}
+use Rattle.std.specs.Prelude.{None, Some, ℕ, ◌+◌, ◌-◌, ◌*◌, Bool, true, false, not, cond, replicate}
 use Rattle.numbers.specs.Lists.{total}
 use Rattle.tables.specs.declared.Status.{Status}
 use Rattle.tables.specs.declared.Status.TheVariants.{Idle, Reading, Known}
 use Rattle.tables.specs.declared.Kind.{Kind}
 use Rattle.tables.specs.declared.Kind.TheVariants.{Free, Var, Val, Ref, Ex}
-use Rattle.tables.specs.declared.Holding.{Holding}
-use Rattle.tables.specs.declared.Holding.TheVariants.{Unused, Live}
 use Rattle.tables.specs.declared.Message.{Message}
 use Rattle.tables.specs.declared.Message.TheVariants.{Empty, Reference, Release, Read, Answer, Ask, Supply}
 use Rattle.tables.specs.declared.Refusal.TheVariants.{WorkerCount}
@@ -15,7 +13,7 @@ use Rattle.tables.specs.declared.Change.TheVariants.{OfCell, OfCellAndSlot, OfEn
 use Rattle.tables.specs.declared.Effect.{Effect}
 use Rattle.tables.specs.declared.Used.{Used}
 use Rattle.tables.specs.Machine.{Machine, Tables}
-use Rattle.tables.specs.Parts.{on_var, on_val, on_ex, is_ex}
+use Rattle.tables.specs.Parts.{Holding, live, on_var, on_val, on_ex, is_ex}
 use Rattle.tables.specs.Look.{cell, end, end_kind, safe, lowest_free_cell, lowest_empty_slot, live_entries}
 use Rattle.rules.specs.Answers.{Result, done, sent, answered, checked}
 use Rattle.rules.specs.Refusals.{bad_count, used, new_refusals, set_refusals, bind_refusals, export_refusals, indirect_refusals, transfer_refusals, drop_refusals, read_refusals, ask_refusals, bound_refusals}
@@ -26,7 +24,7 @@ all_free 𝓜 p =
     record {
       p = p;
       cells = replicate (𝓜.workers * 𝓜.cells) (record { kind = Free });
-      entries = replicate (𝓜.workers * 𝓜.entries) (record { holding = Unused });
+      entries = replicate (𝓜.workers * 𝓜.entries) (record { holding = None });
       slots = replicate 𝓜.slots (record { message = Empty });
     }
 
@@ -58,8 +56,8 @@ bound_to y k ex = on_ex (Ref y) (λ o e n st a. bound_to_ex y k st) ex
 
 -- "Its entry, or the lowest free one made .., gains 1,024": the entry of the cell c, made with this taint
 abbrev pub gains : ℕ → ℕ → Bool → Holding → Holding
-gains first c taint Unused = Live c first taint
-gains first c taint (Live d n t) = Live d (n + first) t
+gains first c taint None = live c first taint
+gains first c taint (Some l) = live l.cell (l.weight + first) l.tainted
 
 -- "Half its weight, rounded down, is sent; the rest stays."
 abbrev pub keeps : Machine → Kind → Kind

@@ -1,19 +1,18 @@
 -- Document 01's numbered cases K1 to K10 as one table, the wrong turnings that they leave open as another, a case of W-201's callers, one of W-203's
 -- known EX, and the whole run printed in document 01's "text program", as calls with their codes and values. A case begins from a state, and each row is a call
 -- with its answer or a look at what then stands in the tables. Assumes nothing.
-use Rattle.std.specs.Prelude.{ℕ, Bool, true, false, ◌&&◌, ◌||◌, not, List, [], ◌∷◌, ◌++◌, eqb, replicate}
+use Rattle.std.specs.Prelude.{None, ℕ, Bool, true, false, ◌&&◌, ◌||◌, not, List, [], ◌∷◌, ◌++◌, eqb, replicate}
 use Rattle.numbers.specs.Below.{all_below, sum_below, lowest_from, walk_meets}
 use Rattle.numbers.specs.Lists.{each_from, total}
 use Rattle.tables.specs.declared.Status.TheVariants.{Idle, Reading}
 use Rattle.tables.specs.declared.Kind.TheVariants.{Free, Var, Val, Ex}
-use Rattle.tables.specs.declared.Holding.TheVariants.{Unused, Live}
 use Rattle.tables.specs.declared.Message.{Message}
 use Rattle.tables.specs.declared.Message.TheVariants.{Empty, Reference, Release, Read, Answer, Ask, Supply}
 use Rattle.tables.specs.declared.Call.{Call}
 use Rattle.tables.specs.declared.Call.TheVariants.{Start, New, Set, Bind, Export, Indirect, Transfer, Drop, ReadCell, AskWeight, Deliver, Bound}
 use Rattle.tables.specs.declared.Outcome.{Outcome}
 use Rattle.tables.specs.Machine.{Tables, eight}
-use Rattle.tables.specs.Parts.{is_var, is_val, has_caller, ex_weight, is_unused, entry_weight, message_weight}
+use Rattle.tables.specs.Parts.{live, is_var, is_val, has_caller, ex_weight, is_unused, entry_weight, message_weight}
 use Rattle.tables.specs.Look.{cell, entry, end, end_kind, safe, entry_of, exported, referred, busy, lowest_free_cell, lowest_free_entry, lowest_empty_slot, ex_naming, free_cells, booked, live_entries, message, put_cell, put_entry, put_message}
 use Rattle.rules.specs.Answers.{code_of, value_of, checked}
 use Rattle.states.specs.Chains.{follow}
@@ -146,7 +145,7 @@ k9 =
 -- "K10 entry at the ceiling, Ask delivered: Supply of 0."
 unfoldable pub at_ceiling : Tables
 at_ceiling =
-    put_entry eight (put_cell eight (put_cell eight (all_free eight 2) 0 0 (Var 0)) 1 0 (Ex 0 0 1048576 Idle false)) 0 0 (Live 0 1048576 false)
+    put_entry eight (put_cell eight (put_cell eight (all_free eight 2) 0 0 (Var 0)) 1 0 (Ex 0 0 1048576 Idle false)) 0 0 (live 0 1048576 false)
 
 abbrev pub k10 : Case
 k10 =
@@ -173,7 +172,7 @@ nearly_full =
       cells =
           replicate 32 (record { kind = Free })
           ++ (replicate 31 (record { kind = Var 0 }) ++ replicate 193 (record { kind = Free }));
-      entries = replicate 128 (record { holding = Unused });
+      entries = replicate 128 (record { holding = None });
       slots = replicate 64 (record { message = Empty });
     }
 
@@ -209,7 +208,7 @@ refused_start_closes = case (all_free eight 2) (gives (Start 9) 1 0 ∷ gives (N
 
 -- "Every call but the start first tests this": a live entry on which nothing is held.
 unfoldable pub nothing_held : Tables
-nothing_held = put_entry eight (put_cell eight (all_free eight 2) 0 0 (Var 0)) 0 0 (Live 0 1 false)
+nothing_held = put_entry eight (put_cell eight (all_free eight 2) 0 0 (Var 0)) 0 0 (live 0 1 false)
 
 abbrev pub refused_unsound : Case
 refused_unsound =
@@ -230,7 +229,7 @@ refused_unsound =
 -- "reach the ceiling; the 1,025th: 10": an entry 1,024 below it.
 unfoldable pub below_ceiling : Tables
 below_ceiling =
-    put_entry eight (put_cell eight (put_cell eight (all_free eight 2) 0 0 (Var 0)) 1 0 (Ex 0 0 1047552 Idle false)) 0 0 (Live 0 1047552 false)
+    put_entry eight (put_cell eight (put_cell eight (all_free eight 2) 0 0 (Var 0)) 1 0 (Ex 0 0 1047552 Idle false)) 0 0 (live 0 1047552 false)
 
 abbrev pub ceiling_reached : Case
 ceiling_reached =
@@ -284,7 +283,7 @@ unfoldable pub called : Tables
 called =
     let vars = put_cell eight (put_cell eight (all_free eight 2) 0 0 (Var 255)) 1 0 (Var 9) in
     let exes = put_cell eight (put_cell eight vars 0 1 (Ex 1 0 5 Idle false)) 1 1 (Ex 0 0 5 Idle false) in
-    put_entry eight (put_entry eight exes 0 0 (Live 0 5 false)) 1 0 (Live 0 5 false)
+    put_entry eight (put_entry eight exes 0 0 (live 0 5 false)) 1 0 (live 0 5 false)
 
 abbrev pub callers : Case
 callers =
@@ -306,7 +305,7 @@ unfoldable pub unsafe_reading : Tables
 unsafe_reading =
     let contexts = put_cell eight (put_cell eight (all_free eight 2) 0 0 (Var 9)) 1 0 (Val 7 4) in
     let exes = put_cell eight (put_cell eight contexts 0 1 (Ex 1 0 5 Reading false)) 1 1 (Ex 0 0 5 Idle false) in
-    put_message (put_entry eight (put_entry eight exes 0 0 (Live 0 5 false)) 1 0 (Live 0 5 false)) 0 (Read 0 1 1 0)
+    put_message (put_entry eight (put_entry eight exes 0 0 (live 0 5 false)) 1 0 (live 0 5 false)) 0 (Read 0 1 1 0)
 
 abbrev pub known_bind : Case
 known_bind =

@@ -1,18 +1,16 @@
 -- "deliver(s), any successor in the same slot, which otherwise becomes empty": what becomes of each message. Assumes nothing.
-use Rattle.std.specs.Prelude.{ℕ, ◌+◌, ◌-◌, min, false, cond, ltb, leb, eqb}
+use Rattle.std.specs.Prelude.{None, Some, ℕ, ◌+◌, ◌-◌, min, false, cond, ltb, leb, eqb}
 use Rattle.tables.specs.declared.Status.{Status}
 use Rattle.tables.specs.declared.Status.TheVariants.{Idle, Reading, Known}
 use Rattle.tables.specs.declared.Kind.{Kind}
 use Rattle.tables.specs.declared.Kind.TheVariants.{Ex}
-use Rattle.tables.specs.declared.Holding.{Holding}
-use Rattle.tables.specs.declared.Holding.TheVariants.{Unused, Live}
 use Rattle.tables.specs.declared.Message.{Message}
 use Rattle.tables.specs.declared.Message.TheVariants.{Empty, Reference, Release, Read, Answer, Ask, Supply}
 use Rattle.tables.specs.declared.Outcome.TheVariants.{Done}
 use Rattle.tables.specs.declared.Change.TheVariants.{OfSlot, OfCellAndSlot, OfEntryAndSlot}
 use Rattle.tables.specs.declared.Effect.{Effect}
 use Rattle.tables.specs.Machine.{Machine, Tables}
-use Rattle.tables.specs.Parts.{on_val, on_ex, cell_of, entry_weight}
+use Rattle.tables.specs.Parts.{Holding, live, on_val, on_ex, cell_of, entry_weight}
 use Rattle.tables.specs.Look.{cell, entry, ex_naming, lowest_free_cell, message}
 use Rattle.rules.specs.Answers.{done, answered, checked}
 use Rattle.states.specs.Chains.{entry_end}
@@ -20,8 +18,8 @@ use Rattle.rules.specs.Refusals.{deliver_refusals}
 
 -- "the weight is taken off the entry (freed at 0)"
 abbrev pub taken_off : ℕ → Holding → Holding
-taken_off w Unused = Unused
-taken_off w (Live c n t) = cond (leb n w) Unused (Live c (n - w) t)
+taken_off w None = None
+taken_off w (Some l) = cond (leb l.weight w) None (live l.cell (l.weight - w) l.tainted)
 
 -- "it joins the EX naming that entry, or the lowest free cell becomes such an EX, idle"
 abbrev pub joined : ℕ → ℕ → ℕ → Kind → Kind
@@ -37,8 +35,8 @@ supplied w k = on_ex k (λ o e n st a. Ex o e (n + w) st false) k
 
 -- the entry that an Ask finds gains w
 abbrev pub grown : ℕ → Holding → Holding
-grown w Unused = Unused
-grown w (Live c n t) = Live c (n + w) t
+grown w None = None
+grown w (Some l) = live l.cell (l.weight + w) l.tainted
 
 -- what a Read for the cell c of worker r becomes at this end: "VAL or known: becomes Answer. An EX not known: becomes a Read of what it
 -- names." At a VAR it is not ready; a free cell or a REF is no end in a sound state: it stays as it is.

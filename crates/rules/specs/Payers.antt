@@ -1,9 +1,8 @@
 -- W-202, who pays for a cell's time: "the caller found by following ends and references from its cell to a VAR or VAL". Assumes nothing.
 use Rattle.std.specs.Prelude.{ℕ, zero, suc, ◌≡◌, Bool, true, ◌||◌, ltb}
 use Rattle.tables.specs.declared.Kind.{Kind}
-use Rattle.tables.specs.declared.Place.TheVariants.{At}
 use Rattle.tables.specs.Machine.{Machine, Tables}
-use Rattle.tables.specs.Parts.{on_ex, is_var, is_val, caller_of, named_by}
+use Rattle.tables.specs.Parts.{place, on_ex, is_var, is_val, caller_of, named_by}
 use Rattle.tables.specs.Look.{cell, entry, end_kind, live_entries}
 use Rattle.states.specs.Chains.{entry_end, LeadsTo}
 
@@ -27,4 +26,4 @@ module _ (𝓜 : Machine) (s : Tables) where
   -- a cell leads to the context at the cell d of worker v: it is that cell, or its end names an entry that leads there
   pub data CellLeadsTo (w c v d : ℕ) : Type 0 where
     itself : w ≡ v → c ≡ d → (is_var (cell 𝓜 s v d) || is_val (cell 𝓜 s v d)) ≡ true → CellLeadsTo w c v d
-    along : (o e : ℕ) → named_by (end_kind 𝓜 s w c) ≡ At o e → LeadsTo 𝓜 s (At o e) v d → CellLeadsTo w c v d
+    along : (o e : ℕ) → named_by (end_kind 𝓜 s w c) ≡ place o e → LeadsTo 𝓜 s (place o e) v d → CellLeadsTo w c v d

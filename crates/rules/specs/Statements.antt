@@ -10,12 +10,11 @@ use Rattle.tables.specs.declared.Status.TheVariants.{Reading, Known}
 use Rattle.tables.specs.declared.Kind.TheVariants.{Var, Val, Ref, Ex}
 use Rattle.tables.specs.declared.Message.{Message}
 use Rattle.tables.specs.declared.Message.TheVariants.{Empty, Reference, Release, Read, Answer, Ask, Supply}
-use Rattle.tables.specs.declared.Place.TheVariants.{At}
 use Rattle.tables.specs.declared.Call.{Call}
 use Rattle.tables.specs.declared.Call.TheVariants.{Bind}
 use Rattle.tables.specs.declared.Outcome.TheVariants.{Done}
 use Rattle.tables.specs.Machine.{Machine, Tables}
-use Rattle.tables.specs.Parts.{is_free, is_var, is_val, has_caller, caller_of, is_ex, is_known, ex_names, is_live, is_tainted, entry_names, cell_of, entry_weight, is_empty}
+use Rattle.tables.specs.Parts.{place, is_free, is_var, is_val, has_caller, caller_of, is_ex, is_known, ex_names, is_live, is_tainted, entry_names, cell_of, entry_weight, is_empty}
 use Rattle.tables.specs.Look.{cell, entry, end_kind, live_entries, message, put_cell}
 use Rattle.rules.specs.Answers.{succeeds}
 use Rattle.states.specs.Sound.{held, sound}
@@ -63,7 +62,7 @@ module _ (𝓜 : Machine) where
   pub record ComesToAnEnd (s : Tables) (o e : ℕ) : Type 0 where
     pub worker : ℕ
     pub number : ℕ
-    pub leads : LeadsTo 𝓜 s (At o e) worker number
+    pub leads : LeadsTo 𝓜 s (place o e) worker number
     pub few : leads.steps < live_entries s
 
   abbrev pub NoLoops : Type 0
@@ -123,13 +122,13 @@ module _ (𝓜 : Machine) where
 
   abbrev pub Brought : Type 0
   Brought =
-      (s : Tables) → Reached 𝓜 s → (w c o e n v : ℕ) (a : Bool) → cell 𝓜 s w c ≡ Ex o e n Reading a → EndsIn 𝓜 s (At o e) v → (ks : List ℕ)
+      (s : Tables) → Reached 𝓜 s → (w c o e n v : ℕ) (a : Bool) → cell 𝓜 s w c ≡ Ex o e n Reading a → EndsIn 𝓜 s (place o e) v → (ks : List ℕ)
       → AtRest (drained 𝓜 s ks) → KnownWith (drained 𝓜 s ks) w c o e v
 
   -- What is known is true: an EX that is known with v has a chain that ends in VAL(v).
   abbrev pub KnownIsTrue : Type 0
   KnownIsTrue =
-      (s : Tables) → Reached 𝓜 s → (w c o e n v : ℕ) (a : Bool) → cell 𝓜 s w c ≡ Ex o e n (Known v) a → EndsIn 𝓜 s (At o e) v
+      (s : Tables) → Reached 𝓜 s → (w c o e n v : ℕ) (a : Bool) → cell 𝓜 s w c ≡ Ex o e n (Known v) a → EndsIn 𝓜 s (place o e) v
 
   -- ---- Every sound state, reached or made by hand, loops included: whatever the call and its numbers, the next state is sound.
   abbrev pub CallsKeepSound : Type 0
@@ -170,9 +169,9 @@ module _ (𝓜 : Machine) where
     pub same_cell : cell_of (entry 𝓜 s' o e) ≡ cell_of (entry 𝓜 s o e)
     pub same_taint : is_tainted (entry 𝓜 s' o e) ≡ is_tainted (entry 𝓜 s o e)
     pub not_freed : is_free (cell 𝓜 s' o (cell_of (entry 𝓜 s o e))) ≡ false
-    pub same_steps : (w c : ℕ) (l : LeadsTo 𝓜 s (At o e) w c)
-        → (ahead 𝓜 s' l.steps (At o e) ≡ At w l.number) × (entry_names c (entry 𝓜 s' w l.number) ≡ true)
-    pub same_context : (w c : ℕ) → LeadsTo 𝓜 s (At o e) w c → Continues s s' w c
+    pub same_steps : (w c : ℕ) (l : LeadsTo 𝓜 s (place o e) w c)
+        → (ahead 𝓜 s' l.steps (place o e) ≡ place w l.number) × (entry_names c (entry 𝓜 s' w l.number) ≡ true)
+    pub same_context : (w c : ℕ) → LeadsTo 𝓜 s (place o e) w c → Continues s s' w c
 
   -- So no number that something still refers to is ever given out again: between two uses of it lies a state in which it is free, and to a
   -- free one nothing refers.
@@ -236,7 +235,7 @@ module _ (𝓜 : Machine) where
   -- In a reached state that value is the one in which the chain of the EX ends (`KnownIsTrue`). Whatever led to the cell ends in it after the call, so that
   -- by `Brought` the reads waiting there bring it; and the cell's own caller pays for it.
   pub record TakesKnownValue (s s' : Tables) (w c v caller : ℕ) : Type 0 where
-    pub ends_there : (o e : ℕ) → is_live (entry 𝓜 s o e) ≡ true → LeadsTo 𝓜 s (At o e) w c → EndsIn 𝓜 s' (At o e) v
+    pub ends_there : (o e : ℕ) → is_live (entry 𝓜 s o e) ≡ true → LeadsTo 𝓜 s (place o e) w c → EndsIn 𝓜 s' (place o e) v
     pub own_caller_pays : payer 𝓜 s' w c ≡ caller
 
   abbrev pub KnownBindTakesValue : Type 0

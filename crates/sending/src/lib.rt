@@ -29,7 +29,7 @@ fn try_export(s: &State, w: u8, c: u8, to: u8) -> Result<Effect, Refusal>
     ensures { settled result ≡ export eight (tables s.now) w c to }
 {
     let look = lookups::see(&s.cells, w, c);
-    send_refusals(sound::is_sound(*s), s.p, w, to, look.kind)?;
+    send_refusals(sound::is_sound(s), s.p, w, to, look.kind)?;
     let u = changes::use_entry(&s.entries, w, look.end);
     let room = searches::room_at(&s.cells, &s.slots, to);
     end_refusals(look.ending, u, room)?;
@@ -49,7 +49,7 @@ fn try_indirect(s: &State, w: u8, c: u8, to: u8) -> Result<Effect, Refusal>
     ensures { settled result ≡ indirect eight (tables s.now) w c to }
 {
     let look = lookups::see(&s.cells, w, c);
-    send_refusals(sound::is_sound(*s), s.p, w, to, look.kind)?;
+    send_refusals(sound::is_sound(s), s.p, w, to, look.kind)?;
     refuse_if(!parts::is_ex(look.ending), Refusal::WrongKind)?;
     let u = changes::use_entry(&s.entries, w, look.end);
     let room = searches::room_at(&s.cells, &s.slots, to);
@@ -71,7 +71,7 @@ fn try_transfer(s: &State, w: u8, c: u8, to: u8) -> Result<Effect, Refusal>
     ensures { settled result ≡ transfer eight (tables s.now) w c to }
 {
     let k = lookups::cell_at(&s.cells, w, c);
-    send_refusals(sound::is_sound(*s), s.p, w, to, k)?;
+    send_refusals(sound::is_sound(s), s.p, w, to, k)?;
     refuse_if(!parts::is_ex(k), Refusal::WrongKind)?;
     let busy = searches::is_busy(&s.cells, &s.entries, w, c, k);
     refuse_if(busy, Refusal::Busy)?;
@@ -93,7 +93,7 @@ fn try_drop(s: &State, w: u8, c: u8) -> Result<Effect, Refusal>
     ensures { settled result ≡ drop eight (tables s.now) w c }
 {
     let k = lookups::cell_at(&s.cells, w, c);
-    cell_refusals(sound::is_sound(*s), s.p, w, k)?;
+    cell_refusals(sound::is_sound(s), s.p, w, k)?;
     let busy = searches::is_busy(&s.cells, &s.entries, w, c, k);
     refuse_if(busy, Refusal::Busy)?;
     let slot = searches::lowest_empty_slot(&s.slots);
@@ -114,7 +114,7 @@ fn try_read(s: &State, w: u8, c: u8) -> Result<Effect, Refusal>
     ensures { settled result ≡ read eight (tables s.now) w c }
 {
     let look = lookups::see(&s.cells, w, c);
-    cell_refusals(sound::is_sound(*s), s.p, w, look.kind)?;
+    cell_refusals(sound::is_sound(s), s.p, w, look.kind)?;
     let slot = searches::lowest_empty_slot(&s.slots);
     slot_refusal(read_sends(look.ending), slot)?;
     Ok(changes::read_at(w, look.end, look.ending, slot))
@@ -133,7 +133,7 @@ fn try_ask(s: &State, w: u8, c: u8) -> Result<Effect, Refusal>
     ensures { settled result ≡ ask eight (tables s.now) w c }
 {
     let look = lookups::see(&s.cells, w, c);
-    cell_refusals(sound::is_sound(*s), s.p, w, look.kind)?;
+    cell_refusals(sound::is_sound(s), s.p, w, look.kind)?;
     refuse_if(!parts::is_ex(look.ending), Refusal::WrongKind)?;
     let slot = searches::lowest_empty_slot(&s.slots);
     slot_refusal(!parts::is_asking(look.ending), slot)?;

@@ -1,2 +1,2 @@
--- Points tested one after another.
-pub mod InTurn
+-- The points, tested one after another.
+pub mod Points

@@ -4,38 +4,50 @@
 ghost use Rattle.std.specs.Prelude.{◌≡◌};
 ghost use Rattle.tables.specs.Machine.{eight, tables};
 ghost use Rattle.states.specs.Sound.{sound, first_broken};
+ghost use Rattle.sound.specs.Points.{point_of};
 
 use tables::State;
 
-// The place, 1 to 6, of the first broken point; 0 where none is.
-#[tactic(auto, using(crate::specs::InTurn::broken, crate::specs::InTurn::kept), unfolding(states::specs::Sound::first_broken))]
-pub fn first_broken(s: State) -> u8
-    ensures { result ≡ first_broken eight (tables s) }
-{
-    if !ranges::point_1(s) {
-        return 1;
-    }
-    if !names::point_2(s) {
-        return 2;
-    }
-    if !names::point_3(s) {
-        return 3;
-    }
-    if !waits::point_4(s) {
-        return 4;
-    }
-    if !weights::point_5(s) {
-        return 5;
-    }
-    if !weights::point_6(s) {
-        return 6;
-    }
-    0
+// The six points of a sound state, each with its place.
+#[derive(Clone, Copy, PartialEq, Eq)]
+pub enum Point {
+    Ranges = 1,
+    CellsName,
+    EntriesName,
+    Messages,
+    Weights,
+    Room,
 }
 
-#[tactic(auto, using(crate::specs::InTurn::none_broken))]
-pub fn is_sound(s: State) -> bool
-    ensures { result ≡ sound eight (tables s) }
+// The first broken point.
+#[tactic(auto, using(crate::specs::Points::broken, crate::specs::Points::kept), unfolding(states::specs::Sound::first_broken))]
+pub fn first_broken(s: &State) -> Option<Point>
+    ensures { result ≡ point_of (first_broken eight (tables s.now)) }
 {
-    first_broken(s) == 0
+    if !ranges::point_1(s) {
+        return Some(Point::Ranges);
+    }
+    if !names::point_2(s) {
+        return Some(Point::CellsName);
+    }
+    if !names::point_3(s) {
+        return Some(Point::EntriesName);
+    }
+    if !waits::point_4(s) {
+        return Some(Point::Messages);
+    }
+    if !weights::point_5(s) {
+        return Some(Point::Weights);
+    }
+    if !weights::point_6(s) {
+        return Some(Point::Room);
+    }
+    None
+}
+
+#[tactic(auto, using(crate::specs::Points::none_broken))]
+pub fn is_sound(s: &State) -> bool
+    ensures { result ≡ sound eight (tables s.now) }
+{
+    first_broken(s).is_none()
 }

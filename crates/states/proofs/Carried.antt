@@ -1,4 +1,5 @@
 -- Reads stay on their chains, and what is known stays true, under a move that brings what it must. Assumes nothing.
+use Rattle.std.specs.Prelude.{None}
 use Prim.Native.Nat.{ℕ}
 use mathlib.Core.Path.{◌≡◌, refl, ap, subst, ◌∙◌}
 use mathlib.Core.Bool.{true}
@@ -9,10 +10,8 @@ use Rattle.tables.specs.declared.Kind.{Kind}
 use Rattle.tables.specs.declared.Kind.TheVariants.{Free, Var, Val, Ref, Ex}
 use Rattle.tables.specs.declared.Message.{Message}
 use Rattle.tables.specs.declared.Message.TheVariants.{Empty, Reference, Release, Read, Answer, Ask, Supply}
-use Rattle.tables.specs.declared.Place.{Place}
-use Rattle.tables.specs.declared.Place.TheVariants.{Nowhere, At}
 use Rattle.tables.specs.Machine.{Machine, Tables}
-use Rattle.tables.specs.Parts.{named_by}
+use Rattle.tables.specs.Parts.{Place, place, named_by}
 use Rattle.tables.specs.Look.{cell, message}
 use Rattle.states.specs.Sound.{reads_for}
 use Rattle.states.specs.Chains.{ahead}
@@ -32,7 +31,7 @@ module _ (𝓜 : Machine) (s : Tables) (h : Move) (F : Facts 𝓜 s) (K : Keeps 
   -- an EX that waits for this message names what it named
   waiting_name : (j r d : ℕ) (m : Message) → message s j ≡ m → reads_for r d m ≡ true → named_by (cell 𝓜 (next 𝓜 s h) r d) ≡ named_by (cell 𝓜 s r d)
   waiting_name j r d m q t =
-      shown_name Nowhere (λ owner entr. At owner entr) (cell 𝓜 (next 𝓜 s h) r d) (cell 𝓜 s r d)
+      shown_name None (λ owner entr. place owner entr) (cell 𝓜 (next 𝓜 s h) r d) (cell 𝓜 s r d)
       (reading_shown 𝓜 s h F K r d (reading_cell 𝓜 s F j r d (ap (reads_for r d) q ∙ t)))
 
   -- ---- a message that stays: a Read stays on its chain, and an Answer true
@@ -65,7 +64,7 @@ module _ (𝓜 : Machine) (s : Tables) (h : Move) (F : Facts 𝓜 s) (K : Keeps 
   known_kept v d (Val n caller) q f = tt
   known_kept v d (Ref y) q f = tt
   known_kept v d (Ex o e n st a) q f =
-      status_kept (At o e) st (subst (LivePlace 𝓜 (next 𝓜 s h)) (ap named_by q) (named_place 𝓜 (next 𝓜 s h) F' v d)) f
+      status_kept (place o e) st (subst (LivePlace 𝓜 (next 𝓜 s h)) (ap named_by q) (named_place 𝓜 (next 𝓜 s h) F' v d)) f
 
   pub reads_kept : ReadsOn 𝓜 s h → Reads 𝓜 s → Reads 𝓜 (next 𝓜 s h)
   reads_kept on old =

@@ -13,10 +13,8 @@ use Rattle.numbers.specs.Tests.{and_l, and_r, and_i}
 use Rattle.numbers.specs.BelowLaws.{sum_mono, sum_less, term_le}
 use Rattle.numbers.specs.ListLaws.{total_below}
 use Rattle.tables.specs.declared.Entry.{Entry}
-use Rattle.tables.specs.declared.Holding.TheVariants.{Unused}
-use Rattle.tables.specs.declared.Place.TheVariants.{At}
 use Rattle.tables.specs.Machine.{Machine, Tables}
-use Rattle.tables.specs.Parts.{is_var, is_val, is_live}
+use Rattle.tables.specs.Parts.{place, is_var, is_val, is_live}
 use Rattle.tables.specs.Look.{holding_at, entry, live_entries}
 use Rattle.tables.specs.Laws.{entry_in_lem}
 use Rattle.states.specs.Chains.{entry_end, ahead}
@@ -26,6 +24,7 @@ use Rattle.states.proofs.Inside.{entry_inside}
 use Rattle.states.proofs.Ends.{EndIs, plain, leads, entry_end_is, entry_leads}
 use Rattle.states.proofs.Derived.{follow_place}
 use Rattle.states.specs.Move.{Ranked}
+use Rattle.std.specs.Prelude.{None}
 
 -- where a holds only where b does
 pub bit_mono : (a b : Bool) → (a ≡ true → b ≡ true) → bit a ≤ bit b
@@ -48,7 +47,7 @@ module _ (𝓜 : Machine) (L : Laws 𝓜) (s : Tables) (z : Sized 𝓜 s) (r : �
   unfolding standing live_entries
   standing_live ρ =
       let long = z.entries_long in
-      let flat = total_below (λ (x : Entry). bit (is_live x.holding)) s.entries (record { holding = Unused }) in
+      let flat = total_below (λ (x : Entry). bit (is_live x.holding)) s.entries (record { holding = None }) in
       let same = ap (λ (n : ℕ). sum_below n (λ k. bit (is_live (holding_at s.entries k)))) long in
       omega (
         arith,
@@ -103,7 +102,7 @@ module _ (𝓜 : Machine) (L : Laws 𝓜) (s : Tables) (F : Facts 𝓜 s) (r : �
     pub owner : ℕ
     pub number : ℕ
     pub few : steps < standing 𝓜 s r (r a b)
-    pub there : ahead 𝓜 s steps (At a b) ≡ At owner number
+    pub there : ahead 𝓜 s steps (place a b) ≡ place owner number
     pub end_plain : (is_var (entry_end 𝓜 s owner (entry 𝓜 s owner number)) || is_val (entry_end 𝓜 s owner (entry 𝓜 s owner number))) ≡ true
 
   comes_within : (fuel a b : ℕ) → standing 𝓜 s r (r a b) ≤ fuel → is_live (entry 𝓜 s a b) ≡ true → ComesToEnd a b
@@ -116,7 +115,7 @@ module _ (𝓜 : Machine) (L : Laws 𝓜) (s : Tables) (F : Facts 𝓜 s) (r : �
       go (plain t) rec = record { steps = 0; owner = a; number = b; few = standing_some 𝓜 L s F.sized r a b l; there = refl; end_plain = t }
       go (leads a' b' q) rec =
           let step = entry_leads 𝓜 s F a b a' b' l q in
-          let live = follow_place 𝓜 s F (At a b) a' b' step in
+          let live = follow_place 𝓜 s F (place a b) a' b' step in
           let less = standing_falls 𝓜 L s F.sized r a b (r a' b') l (R.falls a b a' b' step) in
           let y = rec a' b' (omega arith) live in
           let there = ap (ahead 𝓜 s y.steps) step ∙ y.there in

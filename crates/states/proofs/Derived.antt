@@ -1,5 +1,6 @@
 -- What follows from the facts: ranges, live entries, weights below the ceiling, a waiting cell for each message that needs one, and
 -- the live entry of a Read. Assumes nothing.
+use Rattle.std.specs.Prelude.{None, Some}
 use Prim.Native.Nat.{ℕ, zero, suc, ◌<◌, ◌≤◌}
 use native.Mathlib.Omega.{arith}
 use mathlib.Core.Path.{◌≡◌, refl, sym, ap, ap₂, subst, ◌∙◌}
@@ -10,25 +11,21 @@ use Rattle.numbers.specs.Tests.{absurd_bool}
 use Rattle.tables.specs.declared.Status.{Status}
 use Rattle.tables.specs.declared.Kind.{Kind}
 use Rattle.tables.specs.declared.Kind.TheVariants.{Free, Var, Val, Ref, Ex}
-use Rattle.tables.specs.declared.Holding.{Holding}
-use Rattle.tables.specs.declared.Holding.TheVariants.{Unused, Live}
 use Rattle.tables.specs.declared.Message.{Message}
 use Rattle.tables.specs.declared.Message.TheVariants.{Empty, Read}
-use Rattle.tables.specs.declared.Place.{Place}
-use Rattle.tables.specs.declared.Place.TheVariants.{Nowhere, At}
 use Rattle.tables.specs.Machine.{Machine, Tables}
-use Rattle.tables.specs.Parts.{is_free, is_reading, is_asking, ex_names, named_by, is_live, entry_weight}
+use Rattle.tables.specs.Parts.{Holding, live, Place, place, is_free, is_reading, is_asking, ex_names, named_by, is_live, entry_weight}
 use Rattle.tables.specs.Look.{cell, entry, end, end_kind, message}
 use Rattle.states.specs.Chains.{through, follow, ahead}
 use Rattle.states.specs.Sound.{reads_for, asks_for, reads_of, asks_of, cell_holds, message_holds, held}
 use Rattle.states.specs.Facts.{CellFact, EntryFact, Facts, ReadAhead, Reads, MessageFact}
 use Rattle.states.proofs.Inside.{entry_inside, cell-total, message-total}
-use Rattle.states.proofs.Named.{eq_both, nowhere_at, named_ex, IsLive, the_live, the_ex_of}
+use Rattle.states.proofs.Named.{eq_both, nowhere_at, same_place, named_ex, IsLive, the_live, the_ex_of}
 
 -- a weight that is not 0 is a live entry's
 pub weight_live : (x : Holding) → 1 ≤ entry_weight x → is_live x ≡ true
-weight_live Unused h = absurd (omega arith)
-weight_live (Live c n t) h = refl
+weight_live None h = absurd (omega arith)
+weight_live (Some l) h = refl
 
 pub bit_one : (b : Bool) → 1 ≤ bit b → b ≡ true
 bit_one true h = refl
@@ -66,13 +63,12 @@ module _ (𝓜 : Machine) (s : Tables) where
 
 -- a place that, where it is an entry, is a live one
 abbrev pub LivePlace : Machine → Tables → Place → Type 0
-LivePlace 𝓜 s p = (o e : ℕ) → p ≡ At o e → is_live (entry 𝓜 s o e) ≡ true
+LivePlace 𝓜 s p = (o e : ℕ) → p ≡ place o e → is_live (entry 𝓜 s o e) ≡ true
 
-pub live_place : (𝓜 : Machine) (s : Tables) (a b : ℕ) → is_live (entry 𝓜 s a b) ≡ true → LivePlace 𝓜 s (At a b)
+pub live_place : (𝓜 : Machine) (s : Tables) (a b : ℕ) → is_live (entry 𝓜 s a b) ≡ true → LivePlace 𝓜 s (place a b)
 live_place 𝓜 s a b l o e q =
-    let at_owner : a ≡ o = cc in
-    let at_number : b ≡ e = cc in
-    sym (ap is_live (ap₂ (entry 𝓜 s) at_owner at_number)) ∙ l
+    let same = same_place q in
+    sym (ap is_live (ap₂ (entry 𝓜 s) same.0 same.1)) ∙ l
 
 module _ (𝓜 : Machine) (s : Tables) (F : Facts 𝓜 s) where
   -- a cell that is not free belongs to a worker in use
@@ -86,7 +82,7 @@ module _ (𝓜 : Machine) (s : Tables) (F : Facts 𝓜 s) where
       go (Ref d) t f = f.0
       go (Ex o e n st a) t f = f.0
 
-  pub live_fact : (o e : ℕ) (l : IsLive (entry 𝓜 s o e)) → EntryFact 𝓜 s o (Live l.cell l.weight l.tainted)
+  pub live_fact : (o e : ℕ) (l : IsLive (entry 𝓜 s o e)) → EntryFact 𝓜 s o (live l.cell l.weight l.tainted)
   live_fact o e l = rw l.is at (F.entries o e)
 
   -- what is true of a cell, and of a message, that is this
@@ -106,8 +102,8 @@ module _ (𝓜 : Machine) (s : Tables) (F : Facts 𝓜 s) where
   weight_le o e = go (entry 𝓜 s o e) (F.entries o e)
     where
       go : (x : Holding) → EntryFact 𝓜 s o x → entry_weight x ≤ 𝓜.ceiling
-      go Unused f = omega arith
-      go (Live c n t) f = f.0
+      go None f = omega arith
+      go (Some l) f = f.0
 
   -- what is held on an entry is at most the ceiling
   pub held_le : (o e : ℕ) → held 𝓜 s o e ≤ 𝓜.ceiling
@@ -142,12 +138,12 @@ module _ (𝓜 : Machine) (s : Tables) (F : Facts 𝓜 s) where
 
   pub follow_place : (p : Place) → LivePlace 𝓜 s (follow 𝓜 s p)
   unfolding follow end_kind
-  follow_place Nowhere o e h = nowhere_at h
-  follow_place (At a b) o e h = go (entry 𝓜 s a b) h
+  follow_place None o e h = nowhere_at h
+  follow_place (Some p) o e h = go (entry 𝓜 s p.owner p.entry) h
     where
-      go : (x : Holding) → through 𝓜 s a x ≡ At o e → is_live (entry 𝓜 s o e) ≡ true
-      go Unused q = nowhere_at q
-      go (Live c n t) q = named_place a (end 𝓜 s a c) o e q
+      go : (x : Holding) → through 𝓜 s p.owner x ≡ place o e → is_live (entry 𝓜 s o e) ≡ true
+      go None q = nowhere_at q
+      go (Some l) q = named_place p.owner (end 𝓜 s p.owner l.cell) o e q
 
   pub ahead_place : (n : ℕ) (p : Place) → LivePlace 𝓜 s p → LivePlace 𝓜 s (ahead 𝓜 s n p)
   unfolding ahead

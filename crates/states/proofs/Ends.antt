@@ -6,11 +6,8 @@ use borrow.Author.Tests.{eq-eqb}
 use Rattle.numbers.specs.Tests.{absurd_bool}
 use Rattle.tables.specs.declared.Kind.{Kind}
 use Rattle.tables.specs.declared.Kind.TheVariants.{Free, Var, Val, Ref, Ex}
-use Rattle.tables.specs.declared.Holding.{Holding}
-use Rattle.tables.specs.declared.Holding.TheVariants.{Unused, Live}
-use Rattle.tables.specs.declared.Place.TheVariants.{At}
 use Rattle.tables.specs.Machine.{Machine, Tables}
-use Rattle.tables.specs.Parts.{is_free, is_var, is_val, is_ex, named_by, end_from, is_live, entry_names, cell_of}
+use Rattle.tables.specs.Parts.{Holding, place, is_free, is_var, is_val, is_ex, named_by, end_from, is_live, entry_names, cell_of}
 use Rattle.tables.specs.Look.{cell, entry, end, end_kind}
 use Rattle.states.specs.Chains.{entry_end, follow}
 use Rattle.states.specs.Facts.{Facts}
@@ -18,13 +15,14 @@ use Rattle.states.proofs.Named.{the_ex, the_live}
 use Rattle.states.proofs.Walks.{follow_live}
 use Rattle.states.proofs.Derived.{live_fact, cell_fact}
 use Rattle.states.proofs.Kept.{end_self, end_ref}
+use Rattle.std.specs.Prelude.{None, Some}
 
 abbrev pub VarOrVal : Kind → Type 0
 VarOrVal k = (is_var k || is_val k) ≡ true
 
 pub data EndIs (k : Kind) : Type 0 where
   plain : VarOrVal k → EndIs k
-  leads : (a b : ℕ) → named_by k ≡ At a b → EndIs k
+  leads : (a b : ℕ) → named_by k ≡ place a b → EndIs k
 
 module _ (𝓜 : Machine) (s : Tables) (F : Facts 𝓜 s) where
   pub end_is : (o d : ℕ) → is_free (cell 𝓜 s o d) ≡ false → EndIs (end_kind 𝓜 s o d)
@@ -48,7 +46,7 @@ module _ (𝓜 : Machine) (s : Tables) (F : Facts 𝓜 s) where
       subst EndIs (sym (ap (entry_end 𝓜 s o) l.is)) (end_is o l.cell (live_fact 𝓜 s F o e l).2)
 
   -- a step from a live entry whose end names another
-  pub entry_leads : (o e a b : ℕ) → is_live (entry 𝓜 s o e) ≡ true → named_by (entry_end 𝓜 s o (entry 𝓜 s o e)) ≡ At a b → follow 𝓜 s (At o e) ≡ At a b
+  pub entry_leads : (o e a b : ℕ) → is_live (entry 𝓜 s o e) ≡ true → named_by (entry_end 𝓜 s o (entry 𝓜 s o e)) ≡ place a b → follow 𝓜 s (place o e) ≡ place a b
   entry_leads o e a b t q =
       let l = the_live (entry 𝓜 s o e) t in
       follow_live 𝓜 s o e l.is
@@ -75,5 +73,5 @@ module _ (𝓜 : Machine) (s : Tables) (F : Facts 𝓜 s) where
   own_context a b live = go (entry 𝓜 s a b) live
     where
       go : (x : Holding) → is_live x ≡ true → VarOrVal (entry_end 𝓜 s a x) → (entry_names (cell_of x) x ≡ true) × VarOrVal (cell 𝓜 s a (cell_of x))
-      go Unused l t = absurd_bool l refl
-      go (Live d n u) l t = (eq-eqb d d refl, subst (λ (y : ℕ). VarOrVal (cell 𝓜 s a y)) (own_end a d t) t)
+      go None l t = absurd_bool l refl
+      go (Some x) l t = (eq-eqb x.cell x.cell refl, subst (λ (y : ℕ). VarOrVal (cell 𝓜 s a y)) (own_end a x.cell t) t)

@@ -5,11 +5,9 @@ use mathlib.Core.Bool.{Bool, true, false, ◌&&◌, not}
 use lib.Dec.{ltb}
 use Rattle.tables.specs.declared.Kind.{Kind}
 use Rattle.tables.specs.declared.Kind.TheVariants.{Free, Var, Val, Ref, Ex}
-use Rattle.tables.specs.declared.Holding.{Holding}
-use Rattle.tables.specs.declared.Holding.TheVariants.{Live}
 use Rattle.tables.specs.declared.Message.{Message}
 use Rattle.tables.specs.Machine.{Machine, Tables}
-use Rattle.tables.specs.Parts.{is_free, is_tainted, end_from}
+use Rattle.tables.specs.Parts.{Holding, live, is_free, is_tainted, end_from}
 use Rattle.tables.specs.Look.{cell, entry, end, end_kind, safe}
 use Rattle.states.specs.Sound.{var_val_or_safe}
 use Rattle.states.specs.Facts.{CellFact, EntryFact, Facts}
@@ -46,7 +44,7 @@ module _ (𝓜 : Machine) (s : Tables) (F : Facts 𝓜 s) {o e : ℕ} {x₀ x : 
 
   -- what an entry must have, from what holds before
   pub entry_next : (d n : ℕ) (t : Bool) → n ≤ 𝓜.ceiling → 1 ≤ n → is_free (cell 𝓜 s o d) ≡ false
-      → (t ≡ false → var_val_or_safe 𝓜 s o (end_kind 𝓜 s o d) ≡ true) → EntryFact 𝓜 s' o (Live d n t)
+      → (t ≡ false → var_val_or_safe 𝓜 s o (end_kind 𝓜 s o d) ≡ true) → EntryFact 𝓜 s' o (live d n t)
   unfolding end_kind
   entry_next d n t a b nf good = (
     a,

@@ -14,12 +14,10 @@ use Rattle.tables.specs.declared.Slot.{Slot}
 use Rattle.tables.specs.declared.Status.{Status}
 use Rattle.tables.specs.declared.Kind.{Kind}
 use Rattle.tables.specs.declared.Kind.TheVariants.{Free, Var, Val, Ref, Ex}
-use Rattle.tables.specs.declared.Holding.{Holding}
-use Rattle.tables.specs.declared.Holding.TheVariants.{Unused, Live}
 use Rattle.tables.specs.declared.Message.{Message}
 use Rattle.tables.specs.declared.Message.TheVariants.{Empty, Reference, Release, Read, Answer, Ask, Supply}
 use Rattle.tables.specs.Machine.{Machine, Tables}
-use Rattle.tables.specs.Parts.{is_free, reading_of, is_reading, is_asking, ex_names, named_by, is_live, entry_names, entry_weight, goes_to}
+use Rattle.tables.specs.Parts.{Holding, is_free, reading_of, is_reading, is_asking, ex_names, named_by, is_live, entry_names, entry_weight, goes_to}
 use Rattle.tables.specs.Look.{cell, entry, end_kind, booked, free_cells, message}
 use Rattle.states.specs.Sound.{reads_for, asks_for, each_cell, kind_in_range, message_in_range, cell_in_range, entry_in_range, exes_naming, cell_names, entries_naming, var_val_or_safe, entry_names_cell, reads_of, asks_of, cell_awaited, reached, message_has_its, cell_holds, message_holds, held, entry_weighs, room_for_booked, point1, point2, point3, point4, point5, point6, sound, each_entry, each_message}
 use Rattle.states.specs.Machines.{Laws, Sized}
@@ -27,6 +25,7 @@ use Rattle.states.specs.Facts.{CellFact, EntryFact, MessageFact, Facts, ReadAhea
 use Rattle.states.proofs.Inside.{cell_inside, entry_inside, each_cell_at, each_entry_at, each_message_at, flat_none}
 use Rattle.states.proofs.Named.{both_eq, ex_not_free, ExOf, the_ex_of, the_entry_of, names_live_entry}
 use Rattle.states.proofs.Reach.{reached-ahead}
+use Rattle.std.specs.Prelude.{None, Some}
 
 -- a worker in use, where its cell is not free
 in_use : (b r : Bool) → ((b || false) && r) ≡ true → b ≡ true
@@ -114,14 +113,14 @@ module _ (𝓜 : Machine) (L : Laws 𝓜) (s : Tables) (z : Sized 𝓜 s) (h : s
 
   -- ---- entries
   entry_fact : (w e : ℕ) (x : Holding) → entry_in_range 𝓜 s w e x ≡ true → entry_names_cell 𝓜 s w e x ≡ true → EntryFact 𝓜 s w x
-  entry_fact w e Unused i m = tt
-  entry_fact w e (Live c n t) i m =
-      let r = and_3 (ltb c 𝓜.cells) (leb n 𝓜.ceiling) (leb 1 n) (and_r (ltb w s.p || false) (ltb c 𝓜.cells && leb n 𝓜.ceiling && leb 1 n) i) in
-      let q = and_3 (not (is_free (cell 𝓜 s w c))) (leb (entries_naming 𝓜 s w c) 1) (t || var_val_or_safe 𝓜 s w (end_kind 𝓜 s w c)) m in (
-        leb-true n 𝓜.ceiling r.1,
-        leb-true 1 n r.2,
-        not-true (is_free (cell 𝓜 s w c)) q.0,
-        (λ (u : t ≡ false). or_right t (var_val_or_safe 𝓜 s w (end_kind 𝓜 s w c)) q.2 u),
+  entry_fact w e None i m = tt
+  entry_fact w e (Some l) i m =
+      let r = and_3 (ltb l.cell 𝓜.cells) (leb l.weight 𝓜.ceiling) (leb 1 l.weight) (and_r (ltb w s.p || false) (ltb l.cell 𝓜.cells && leb l.weight 𝓜.ceiling && leb 1 l.weight) i) in
+      let q = and_3 (not (is_free (cell 𝓜 s w l.cell))) (leb (entries_naming 𝓜 s w l.cell) 1) (l.tainted || var_val_or_safe 𝓜 s w (end_kind 𝓜 s w l.cell)) m in (
+        leb-true l.weight 𝓜.ceiling r.1,
+        leb-true 1 l.weight r.2,
+        not-true (is_free (cell 𝓜 s w l.cell)) q.0,
+        (λ (u : l.tainted ≡ false). or_right l.tainted (var_val_or_safe 𝓜 s w (end_kind 𝓜 s w l.cell)) q.2 u),
       )
 
   entry_single : (w e f c : ℕ) → entry_names c (entry 𝓜 s w e) ≡ true → entry_names c (entry 𝓜 s w f) ≡ true → e ≡ f
@@ -247,8 +246,8 @@ module _ (𝓜 : Machine) (L : Laws 𝓜) (s : Tables) (z : Sized 𝓜 s) (h : s
   all_weighed o e = go (entry 𝓜 s o e) refl
     where
       go : (x : Holding) → entry 𝓜 s o e ≡ x → entry_weight x ≡ held 𝓜 s o e
-      go Unused q = sym (nothing_held_lem o e (ap is_live q))
-      go (Live c n t) q = eqb-true n (held 𝓜 s o e) (ap (entry_weighs 𝓜 s o e) (sym q) ∙ weighs o e)
+      go None q = sym (nothing_held_lem o e (ap is_live q))
+      go (Some l) q = eqb-true l.weight (held 𝓜 s o e) (ap (entry_weighs 𝓜 s o e) (sym q) ∙ weighs o e)
 
   -- ---- room
   goes_in : (w : ℕ) (m : Message) → message_in_range 𝓜 s m ≡ true → goes_to w m ≡ true → w < s.p

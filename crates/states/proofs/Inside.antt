@@ -16,16 +16,15 @@ use Rattle.tables.specs.declared.Cell.{Cell}
 use Rattle.tables.specs.declared.Slot.{Slot}
 use Rattle.tables.specs.declared.Kind.{Kind}
 use Rattle.tables.specs.declared.Kind.TheVariants.{Free}
-use Rattle.tables.specs.declared.Holding.{Holding}
-use Rattle.tables.specs.declared.Holding.TheVariants.{Unused}
 use Rattle.tables.specs.declared.Message.{Message}
 use Rattle.tables.specs.declared.Message.TheVariants.{Empty}
 use Rattle.tables.specs.Machine.{Machine, Tables}
-use Rattle.tables.specs.Parts.{is_free, is_live}
+use Rattle.tables.specs.Parts.{Holding, is_free, is_live}
 use Rattle.tables.specs.Look.{kind_at, holding_at, cell, entry, message}
 use Rattle.tables.specs.Laws.{cell_in_lem, entry_in_lem}
 use Rattle.states.specs.Sound.{each_cell, each_entry, each_message}
 use Rattle.states.specs.Machines.{Laws, Sized}
+use Rattle.std.specs.Prelude.{None}
 
 -- a choice that is inside only where both tests hold
 chosen : {X : Type 0} (P : X → Type 0) (W C w c : ℕ) (x d : X) → P d → (w < W → c < C → P x) → P (cond (ltb w W && ltb c C) x d)
@@ -43,11 +42,11 @@ module _ (𝓜 : Machine) (s : Tables) where
   unfolding cell
   cells_all P out inn w c = chosen (P w c) 𝓜.workers 𝓜.cells w c (kind_at s.cells (w * 𝓜.cells + c)) Free (out w c) (inn w c)
 
-  pub entries_all : (P : ℕ → ℕ → Holding → Type 0) → ((w e : ℕ) → P w e Unused)
+  pub entries_all : (P : ℕ → ℕ → Holding → Type 0) → ((w e : ℕ) → P w e None)
       → ((w e : ℕ) → w < 𝓜.workers → e < 𝓜.entries → P w e (holding_at s.entries (w * 𝓜.entries + e))) → (w e : ℕ) → P w e (entry 𝓜 s w e)
   unfolding entry
   entries_all P out inn w e =
-      chosen (P w e) 𝓜.workers 𝓜.entries w e (holding_at s.entries (w * 𝓜.entries + e)) Unused (out w e) (inn w e)
+      chosen (P w e) 𝓜.workers 𝓜.entries w e (holding_at s.entries (w * 𝓜.entries + e)) None (out w e) (inn w e)
 
   -- a cell that is not free, and a live entry, is inside its table
   pub cell_inside : (w c : ℕ) → is_free (cell 𝓜 s w c) ≡ false → (w < 𝓜.workers) × (c < 𝓜.cells)
@@ -88,14 +87,14 @@ module _ (𝓜 : Machine) (s : Tables) where
         let row : k / 𝓜.cells < 𝓜.workers = (div-lt_iff_lt-mul L.cells_some).1 (omega arith) in
         rw (cell_in_lem 𝓜 s (k / 𝓜.cells) (k % 𝓜.cells) row (mod-lt k L.cells_some), div-add-mod' k 𝓜.cells) at (h (k / 𝓜.cells) (k % 𝓜.cells)))
 
-    pub each_entry_at : (q : ℕ → ℕ → Holding → Bool) → ((w e : ℕ) → q w e Unused ≡ true) → each_entry 𝓜 s q ≡ true → (w e : ℕ) → q w e (entry 𝓜 s w e) ≡ true
+    pub each_entry_at : (q : ℕ → ℕ → Holding → Bool) → ((w e : ℕ) → q w e None ≡ true) → each_entry 𝓜 s q ≡ true → (w e : ℕ) → q w e (entry 𝓜 s w e) ≡ true
     each_entry_at q out h =
         entries_all (λ w e x. q w e x ≡ true) out
-        (grid_at 𝓜.workers 𝓜.entries s.entries (record { holding = Unused }) L.entries_some z.entries_long (λ w e x. q w e x.holding) h)
+        (grid_at 𝓜.workers 𝓜.entries s.entries (record { holding = None }) L.entries_some z.entries_long (λ w e x. q w e x.holding) h)
 
     pub each_entry_of : (q : ℕ → ℕ → Holding → Bool) → ((w e : ℕ) → q w e (entry 𝓜 s w e) ≡ true) → each_entry 𝓜 s q ≡ true
     each_entry_of q h =
-        grid_of 𝓜.workers 𝓜.entries s.entries (record { holding = Unused }) L.entries_some z.entries_long (λ w e x. q w e x.holding)
+        grid_of 𝓜.workers 𝓜.entries s.entries (record { holding = None }) L.entries_some z.entries_long (λ w e x. q w e x.holding)
         (λ w e a b. rw (entry_in_lem 𝓜 s w e a b) at (h w e))
 
   -- past the last slot a message is empty

@@ -1,4 +1,5 @@
 -- The facts of a sound state stay under a move that keeps what it must. Assumes nothing.
+use Rattle.std.specs.Prelude.{Some, None}
 use Prim.Native.Nat.{ℕ}
 use native.Mathlib.Omega.{arith}
 use mathlib.Core.Path.{◌≡◌, refl, sym, ap, ◌∙◌}
@@ -12,15 +13,12 @@ use Rattle.numbers.specs.ListLaws.{total_cong}
 use Rattle.tables.specs.declared.Slot.{Slot}
 use Rattle.tables.specs.declared.Status.{Status}
 use Rattle.tables.specs.declared.Status.TheVariants.{Idle}
-use Rattle.tables.specs.declared.Place.TheVariants.{Nowhere}
 use Rattle.tables.specs.declared.Kind.{Kind}
 use Rattle.tables.specs.declared.Kind.TheVariants.{Free, Var, Val, Ref, Ex}
-use Rattle.tables.specs.declared.Holding.{Holding}
-use Rattle.tables.specs.declared.Holding.TheVariants.{Unused, Live}
 use Rattle.tables.specs.declared.Message.{Message}
 use Rattle.tables.specs.declared.Message.TheVariants.{Empty, Reference, Release, Read, Answer, Ask, Supply}
 use Rattle.tables.specs.Machine.{Machine, Tables}
-use Rattle.tables.specs.Parts.{on_ex, reading_of, is_free, is_var, is_val, is_ex, is_reading, is_asking, ex_names, named_by, end_from, is_live, is_tainted, entry_names, entry_weight, goes_to, cell_of}
+use Rattle.tables.specs.Parts.{Holding, on_ex, reading_of, is_free, is_var, is_val, is_ex, is_reading, is_asking, ex_names, named_by, end_from, is_live, is_tainted, entry_names, entry_weight, goes_to, cell_of}
 use Rattle.tables.specs.Look.{cell, entry, end, end_kind, safe, exported, busy, booked, message}
 use Rattle.states.specs.Sound.{reads_for, asks_for, var_val_or_safe, reads_of, asks_of, cell_holds, message_holds, held}
 use Rattle.states.specs.Facts.{CellFact, EntryFact, MessageFact, Facts}
@@ -57,7 +55,7 @@ shown_plain (Ref d) k t q = q
 shown_plain (Ex o e n st a) k t q = absurd_bool (sym (ap is_ex q)) t
 
 -- a VAR or a VAL is its own end, and names no entry
-pub var_val_end : (k : Kind) (d : ℕ) → (is_var k || is_val k) ≡ true → (is_free k ≡ false) × (end_from k d ≡ d) × (named_by k ≡ Nowhere)
+pub var_val_end : (k : Kind) (d : ℕ) → (is_var k || is_val k) ≡ true → (is_free k ≡ false) × (end_from k d ≡ d) × (named_by k ≡ None)
 var_val_end Free d t = absurd_bool t refl
 var_val_end (Var caller) d t = (refl, refl, refl)
 var_val_end (Val n caller) d t = (refl, refl, refl)
@@ -266,10 +264,10 @@ module _ (𝓜 : Machine) (s : Tables) (h : Move) (F : Facts 𝓜 s) (K : Keeps 
           (ap is_free r.is, safe_end d now was (ap is_ex q) same)
 
   entry_kept' : (v f : ℕ) (y : Holding) → entry 𝓜 s v f ≡ y → EntryFact 𝓜 s v y → EntryFact 𝓜 s' v y
-  entry_kept' v f Unused q g = tt
-  entry_kept' v f (Live d n t) q g =
-      let x = exported_by 𝓜 s v d f (ap (entry_names d) q ∙ eq-eqb d d refl) in
-      let r = good_kept v d x g.2 in
+  entry_kept' v f None q g = tt
+  entry_kept' v f (Some l) q g =
+      let x = exported_by 𝓜 s v l.cell f (ap (entry_names l.cell) q ∙ eq-eqb l.cell l.cell refl) in
+      let r = good_kept v l.cell x g.2 in
       (g.0, g.1, r.0, λ u. r.1 (g.3 u))
 
   entries' : (v f : ℕ) → EntryFact 𝓜 s' v (entry 𝓜 s' v f)

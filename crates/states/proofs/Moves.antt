@@ -18,12 +18,10 @@ use Rattle.tables.specs.declared.Slot.{Slot}
 use Rattle.tables.specs.declared.Status.{Status}
 use Rattle.tables.specs.declared.Kind.{Kind}
 use Rattle.tables.specs.declared.Kind.TheVariants.{Free, Ex}
-use Rattle.tables.specs.declared.Holding.{Holding}
-use Rattle.tables.specs.declared.Holding.TheVariants.{Unused}
 use Rattle.tables.specs.declared.Message.{Message}
 use Rattle.tables.specs.declared.Message.TheVariants.{Empty}
 use Rattle.tables.specs.Machine.{Machine, Tables, with_cells, with_entries, with_slots}
-use Rattle.tables.specs.Parts.{reading_of, is_free, is_var, is_val, is_reading, is_asking, ex_names, is_live, is_tainted, entry_names, entry_weight, goes_to, cell_of}
+use Rattle.tables.specs.Parts.{Holding, reading_of, is_free, is_var, is_val, is_reading, is_asking, ex_names, is_live, is_tainted, entry_names, entry_weight, goes_to, cell_of}
 use Rattle.tables.specs.Look.{cell, entry, exported, busy, booked, free_cells, message, put_cell, put_entry, put_message}
 use Rattle.tables.specs.Laws.{cell_in_lem, entry_in_lem}
 use Rattle.states.specs.Sound.{reads_for, asks_for, cell_holds, message_holds}
@@ -32,6 +30,7 @@ use Rattle.states.specs.Facts.{CellFact, EntryFact, MessageFact, Facts}
 use Rattle.states.proofs.Inside.{cell_inside}
 use Rattle.states.proofs.Derived.{cell_fact}
 use Rattle.states.specs.Move.{Move, next, shown, VarBecomes, stays, ReferenceGoes, Keeps, Placed}
+use Rattle.std.specs.Prelude.{None}
 
 -- a move of the cell c of worker w and of the slot i; the entry that stands first is left as it is
 abbrev pub cell_move : Machine → Tables → ℕ → ℕ → Kind → Kind → ℕ → Message → Message → Move
@@ -52,7 +51,7 @@ module _ (𝓜 : Machine) (L : Laws 𝓜) (s : Tables) where
   same_entries : set s.entries (0 * 𝓜.entries + 0) (record { holding = entry 𝓜 s 0 0 }) ≡ s.entries
   same_entries =
       ap (λ (y : Holding). set s.entries (0 * 𝓜.entries + 0) (record { holding = y })) (entry_in_lem 𝓜 s 0 0 L.workers_some L.entries_some)
-      ∙ set-get_or s.entries (0 * 𝓜.entries + 0) (record { holding = Unused })
+      ∙ set-get_or s.entries (0 * 𝓜.entries + 0) (record { holding = None })
 
   same_cells : set s.cells (0 * 𝓜.cells + 0) (record { kind = cell 𝓜 s 0 0 }) ≡ s.cells
   same_cells =

@@ -1,4 +1,5 @@
 -- From a test of one part to the part itself: an EX that names an entry, an entry that names a cell. Assumes nothing.
+use Rattle.std.specs.Prelude.{Some, None}
 use Prim.Native.Nat.{ℕ}
 use native.Mathlib.Omega.{arith}
 use mathlib.Core.Path.{◌≡◌, refl, ap, sym, ◌∙◌}
@@ -9,11 +10,8 @@ use Rattle.numbers.specs.Tests.{absurd_bool, and_l, and_r, and_i}
 use Rattle.tables.specs.declared.Status.{Status}
 use Rattle.tables.specs.declared.Kind.{Kind}
 use Rattle.tables.specs.declared.Kind.TheVariants.{Free, Var, Val, Ref, Ex}
-use Rattle.tables.specs.declared.Holding.{Holding}
-use Rattle.tables.specs.declared.Holding.TheVariants.{Unused, Live}
-use Rattle.tables.specs.declared.Place.{Place}
-use Rattle.tables.specs.declared.Place.TheVariants.{Nowhere, At}
-use Rattle.tables.specs.Parts.{on_ex, is_free, is_var, is_ex, ex_names, named_by, is_live, entry_names}
+use Rattle.tables.specs.declared.EntryName.{EntryName}
+use Rattle.tables.specs.Parts.{Holding, live, Place, place, on_ex, is_free, is_var, is_ex, ex_names, named_by, is_live, entry_names}
 
 -- two numbers tested at once
 pub both_eq : (a b c d : ℕ) → (eqb a b && eqb c d) ≡ true → (a ≡ b) × (c ≡ d)
@@ -70,28 +68,33 @@ the_ex_of o e k h =
     record { weight = x.weight; status = x.status; asking = x.asking; is = x.is ∙ rw (q.0, q.1) }
 
 -- nowhere is no entry's place, so what names an entry is an EX
-pub nowhere_at : {X : Type 0} {o e : ℕ} → ◌≡◌ {A = Place} Nowhere (At o e) → X
+pub nowhere_at : {X : Type 0} {o e : ℕ} → ◌≡◌ {A = Place} None (place o e) → X
 nowhere_at q = let z : ◌≡◌ {A = ℕ} 0 1 = cc in absurd (omega arith)
 
-pub named_ex : (o e : ℕ) (k : Kind) → named_by k ≡ At o e → ExOf o e k
+-- and an entry's place tells the entry
+pub same_place : {a b o e : ℕ} → place a b ≡ place o e → (a ≡ o) × (b ≡ e)
+same_place {a} {b} {o} {e} q =
+    let name : ◌≡◌ {A = EntryName} (record { owner = a; entry = b }) (record { owner = o; entry = e }) = cc in
+    (ap (λ (n : EntryName). n.owner) name, ap (λ (n : EntryName). n.entry) name)
+
+pub named_ex : (o e : ℕ) (k : Kind) → named_by k ≡ place o e → ExOf o e k
 named_ex o e Free q = nowhere_at q
 named_ex o e (Var caller) q = nowhere_at q
 named_ex o e (Val n caller) q = nowhere_at q
 named_ex o e (Ref c) q = nowhere_at q
 named_ex o e (Ex o' e' n st a) q =
-    let same_owner : o' ≡ o = cc in
-    let same_entry : e' ≡ e = cc in
-    record { weight = n; status = st; asking = a; is = rw (same_owner, same_entry) }
+    let same = same_place q in
+    record { weight = n; status = st; asking = a; is = rw (same.0, same.1) }
 
 -- a live entry that names the cell c
 pub record EntryOf (c : ℕ) (x : Holding) : Type 0 where
   pub weight : ℕ
   pub tainted : Bool
-  pub is : x ≡ Live c weight tainted
+  pub is : x ≡ live c weight tainted
 
 pub the_entry_of : (c : ℕ) (x : Holding) → entry_names c x ≡ true → EntryOf c x
-the_entry_of c Unused h = absurd_bool h refl
-the_entry_of c (Live d n t) h = record { weight = n; tainted = t; is = rw (eqb-true d c h) }
+the_entry_of c None h = absurd_bool h refl
+the_entry_of c (Some l) h = record { weight = l.weight; tainted = l.tainted; is = rw (eqb-true l.cell c h) }
 
 pub names_live_entry : (c : ℕ) (x : Holding) → entry_names c x ≡ true → is_live x ≡ true
 names_live_entry c x h = ap is_live (the_entry_of c x h).is
@@ -100,8 +103,8 @@ pub record IsLive (x : Holding) : Type 0 where
   pub cell : ℕ
   pub weight : ℕ
   pub tainted : Bool
-  pub is : x ≡ Live cell weight tainted
+  pub is : x ≡ live cell weight tainted
 
 pub the_live : (x : Holding) → is_live x ≡ true → IsLive x
-the_live Unused h = absurd_bool h refl
-the_live (Live c n t) h = record { cell = c; weight = n; tainted = t; is = refl }
+the_live None h = absurd_bool h refl
+the_live (Some l) h = record { cell = l.cell; weight = l.weight; tainted = l.tainted; is = refl }

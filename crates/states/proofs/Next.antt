@@ -17,7 +17,6 @@ use Rattle.tables.specs.declared.Entry.{Entry}
 use Rattle.tables.specs.declared.Slot.{Slot}
 use Rattle.tables.specs.declared.Kind.{Kind}
 use Rattle.tables.specs.declared.Kind.TheVariants.{Free}
-use Rattle.tables.specs.declared.Holding.TheVariants.{Unused}
 use Rattle.tables.specs.declared.Message.{Message}
 use Rattle.tables.specs.declared.Message.TheVariants.{Empty}
 use Rattle.tables.specs.Machine.{Machine, Tables}
@@ -27,6 +26,7 @@ use Rattle.tables.specs.Laws.{cell_in_lem}
 use Rattle.states.specs.Machines.{Sized}
 use Rattle.states.specs.Move.{Move, next, Placed}
 use Rattle.states.proofs.Stored.{Stored, stored_row, rows_stored}
+use Rattle.std.specs.Prelude.{None}
 
 module _ (𝓜 : Machine) (s : Tables) (h : Move) (z : Sized 𝓜 s) (P : Placed 𝓜 s h) where
   -- ---- each table before and after
@@ -39,7 +39,7 @@ module _ (𝓜 : Machine) (s : Tables) (h : Move) (z : Sized 𝓜 s) (P : Placed
   pub entry_stored : Stored (entry 𝓜 s) (entry 𝓜 (next 𝓜 s h)) h.o h.e h.x₀ h.x
   unfolding entry
   entry_stored =
-      rows_stored (λ (y : Entry). y.holding) Unused (record { holding = Unused }) 𝓜.workers 𝓜.entries s.entries
+      rows_stored (λ (y : Entry). y.holding) None (record { holding = None }) 𝓜.workers 𝓜.entries s.entries
       h.o h.e h.x₀ (record { holding = h.x }) z.entries_long P.o_in P.e_in P.old_entry
 
   slot_place : h.i < length s.slots

@@ -1,5 +1,6 @@
 -- What a move keeps of chains: a step from an entry that is live before and after stays, an end that is a value stays, and a new step leads
 -- from a VAR that was bound to a safe EX, or from a new entry. Assumes nothing.
+use Rattle.std.specs.Prelude.{None, Some}
 use Prim.Native.Nat.{ℕ, zero, suc}
 use native.Mathlib.Omega.{arith}
 use mathlib.Core.Path.{◌≡◌, refl, sym, ap, subst, ◌∙◌}
@@ -8,12 +9,8 @@ use borrow.Author.Tests.{eq-eqb}
 use Rattle.numbers.specs.Tests.{absurd_bool}
 use Rattle.tables.specs.declared.Kind.{Kind}
 use Rattle.tables.specs.declared.Kind.TheVariants.{Free, Var, Val, Ref, Ex}
-use Rattle.tables.specs.declared.Holding.{Holding}
-use Rattle.tables.specs.declared.Holding.TheVariants.{Unused, Live}
-use Rattle.tables.specs.declared.Place.{Place}
-use Rattle.tables.specs.declared.Place.TheVariants.{Nowhere, At}
 use Rattle.tables.specs.Machine.{Machine, Tables}
-use Rattle.tables.specs.Parts.{is_free, is_var, is_ex, named_by, is_live, entry_names, cell_of}
+use Rattle.tables.specs.Parts.{Holding, live, Place, place, is_free, is_var, is_ex, named_by, is_live, entry_names, cell_of}
 use Rattle.tables.specs.Look.{cell, entry, end_kind, safe, exported}
 use Rattle.states.specs.Chains.{entry_end, follow, ahead, EndsIn}
 use Rattle.states.specs.Facts.{Facts}
@@ -68,7 +65,7 @@ module _ (𝓜 : Machine) (s : Tables) (h : Move) (F : Facts 𝓜 s) (K : Keeps 
           let f = cell_fact 𝓜 s F v d q in
           let now = end_ref 𝓜 s' v d y here in
           let was = end_ref 𝓜 s v d y q in
-          let same = shown_name Nowhere (λ owner entr. At owner entr) (cell 𝓜 s' v y) (cell 𝓜 s v y) (referred_shown 𝓜 s h F K v d y q f.1) in
+          let same = shown_name None (λ owner entr. place owner entr) (cell 𝓜 s' v y) (cell 𝓜 s v y) (referred_shown 𝓜 s h F K v d y q f.1) in
           as_before (ap named_by now ∙ same ∙ sym (ap named_by was)) (λ n a p. absurd_bool f.1 (ap is_ex (sym was ∙ p)))
       go (Ex o e n st a) q t =
           let x' = ex_after 𝓜 s h F K v d q (exported-shown 𝓜 s h F K v d x (ap is_var q)) in
@@ -84,43 +81,43 @@ module _ (𝓜 : Machine) (s : Tables) (h : Move) (F : Facts 𝓜 s) (K : Keeps 
 
   -- an entry that is live before and after, taken apart: the same cell
   pub after_live : (a b : ℕ) (l : IsLive (entry 𝓜 s a b)) → is_live (entry 𝓜 s' a b) ≡ true
-      → (n : ℕ) × (t : Bool) × (entry 𝓜 s' a b ≡ Live l.cell n t)
+      → (n : ℕ) × (t : Bool) × (entry 𝓜 s' a b ≡ live l.cell n t)
   after_live a b l t =
       let l' = the_live (entry 𝓜 s' a b) t in
       let r = live_kept 𝓜 s h F K a b (ap is_live l.is) t in
       let same : l'.cell ≡ l.cell = sym (ap cell_of l'.is) ∙ r.0 ∙ ap cell_of l.is in
-      (l'.weight, l'.tainted, l'.is ∙ ap (λ (y : ℕ). Live y l'.weight l'.tainted) same)
+      (l'.weight, l'.tainted, l'.is ∙ ap (λ (y : ℕ). live y l'.weight l'.tainted) same)
 
   -- a step stays
-  pub follow_kept : (a b o e : ℕ) → follow 𝓜 s (At a b) ≡ At o e → is_live (entry 𝓜 s' a b) ≡ true → follow 𝓜 s' (At a b) ≡ At o e
+  pub follow_kept : (a b o e : ℕ) → follow 𝓜 s (place a b) ≡ place o e → is_live (entry 𝓜 s' a b) ≡ true → follow 𝓜 s' (place a b) ≡ place o e
   follow_kept a b o e q t =
       let l = follow_from 𝓜 s a b o e q in
       let l' = after_live a b l t in
       let x = live_exported a b l in
-      let was : named_by (end_kind 𝓜 s a l.cell) ≡ At o e = sym (follow_live 𝓜 s a b l.is) ∙ q in
+      let was : named_by (end_kind 𝓜 s a l.cell) ≡ place o e = sym (follow_live 𝓜 s a b l.is) ∙ q in
       let now = follow_live 𝓜 s' a b l'.2 in
       now ∙ go l.cell was (end_kept a l.cell x.0 x.1)
     where
-      go : (d : ℕ) → named_by (end_kind 𝓜 s a d) ≡ At o e → EndKept a d → named_by (end_kind 𝓜 s' a d) ≡ At o e
+      go : (d : ℕ) → named_by (end_kind 𝓜 s a d) ≡ place o e → EndKept a d → named_by (end_kind 𝓜 s' a d) ≡ place o e
       go d was (as_before p v) = p ∙ was
       go d was (newly_bound y caller i p v) = nowhere_at (sym (ap named_by (end_self 𝓜 s a d (Var caller) i refl)) ∙ was)
 
   -- and so does a walk from a place that is live after the move
-  pub ahead_kept : (n : ℕ) (p : Place) (o e : ℕ) → LivePlace 𝓜 s' p → ahead 𝓜 s n p ≡ At o e → ahead 𝓜 s' n p ≡ At o e
+  pub ahead_kept : (n : ℕ) (p : Place) (o e : ℕ) → LivePlace 𝓜 s' p → ahead 𝓜 s n p ≡ place o e → ahead 𝓜 s' n p ≡ place o e
   unfolding ahead follow
   ahead_kept zero p o e l q = q
-  ahead_kept (suc n) Nowhere o e l q = nowhere_at (sym (ahead_nowhere 𝓜 s n) ∙ q)
-  ahead_kept (suc n) (At a b) o e l q = go (follow 𝓜 s (At a b)) refl (ahead_kept n (follow 𝓜 s (At a b)) o e)
+  ahead_kept (suc n) None o e l q = nowhere_at (sym (ahead_nowhere 𝓜 s n) ∙ q)
+  ahead_kept (suc n) (Some p) o e l q = go (follow 𝓜 s (Some p)) refl (ahead_kept n (follow 𝓜 s (Some p)) o e)
     where
-      go : (r : Place) → follow 𝓜 s (At a b) ≡ r
-          → (LivePlace 𝓜 s' (follow 𝓜 s (At a b)) → ahead 𝓜 s n (follow 𝓜 s (At a b)) ≡ At o e → ahead 𝓜 s' n (follow 𝓜 s (At a b)) ≡ At o e)
-          → ahead 𝓜 s' n (follow 𝓜 s' (At a b)) ≡ At o e
-      go Nowhere i rec = nowhere_at (sym (ahead_nowhere 𝓜 s n) ∙ sym (ap (ahead 𝓜 s n) i) ∙ q)
-      go (At a' b') i rec =
-          let kept = follow_kept a b a' b' i (l a b refl) in
-          let same : follow 𝓜 s' (At a b) ≡ follow 𝓜 s (At a b) = kept ∙ sym i in
+      go : (r : Place) → follow 𝓜 s (Some p) ≡ r
+          → (LivePlace 𝓜 s' (follow 𝓜 s (Some p)) → ahead 𝓜 s n (follow 𝓜 s (Some p)) ≡ place o e → ahead 𝓜 s' n (follow 𝓜 s (Some p)) ≡ place o e)
+          → ahead 𝓜 s' n (follow 𝓜 s' (Some p)) ≡ place o e
+      go None i rec = nowhere_at (sym (ahead_nowhere 𝓜 s n) ∙ sym (ap (ahead 𝓜 s n) i) ∙ q)
+      go (Some r) i rec =
+          let kept = follow_kept p.owner p.entry r.owner r.entry i (l p.owner p.entry refl) in
+          let same : follow 𝓜 s' (Some p) ≡ follow 𝓜 s (Some p) = kept ∙ sym i in
           ap (ahead 𝓜 s' n) same
-          ∙ rec (subst (LivePlace 𝓜 s') same (follow_place 𝓜 s' F' (At a b))) q
+          ∙ rec (subst (LivePlace 𝓜 s') same (follow_place 𝓜 s' F' (Some p))) q
 
   -- a chain that ends in a value goes on to
   pub ends_kept : (p : Place) (v : ℕ) → LivePlace 𝓜 s' p → EndsIn 𝓜 s p v → EndsIn 𝓜 s' p v
@@ -133,16 +130,16 @@ module _ (𝓜 : Machine) (s : Tables) (h : Move) (F : Facts 𝓜 s) (K : Keeps 
       go : (y : Holding) → entry 𝓜 s x.owner x.number ≡ y → entry_end 𝓜 s x.owner y ≡ Val v x.caller
           → is_live (entry 𝓜 s' x.owner x.number) ≡ true
           → entry_end 𝓜 s' x.owner (entry 𝓜 s' x.owner x.number) ≡ Val v x.caller
-      go Unused i q t = let z : ◌≡◌ {A = ℕ} 0 1 = cc in absurd (omega arith)
-      go (Live d n b) i q t =
-          let lv : IsLive (entry 𝓜 s x.owner x.number) = record { cell = d; weight = n; tainted = b; is = i } in
+      go None i q t = let z : ◌≡◌ {A = ℕ} 0 1 = cc in absurd (omega arith)
+      go (Some l) i q t =
+          let lv : IsLive (entry 𝓜 s x.owner x.number) = record { cell = l.cell; weight = l.weight; tainted = l.tainted; is = i } in
           let l' = after_live x.owner x.number lv t in
           let r = live_exported x.owner x.number lv in
-          ap (entry_end 𝓜 s' x.owner) l'.2 ∙ value (end_kept x.owner d r.0 r.1)
+          ap (entry_end 𝓜 s' x.owner) l'.2 ∙ value (end_kept x.owner l.cell r.0 r.1)
         where
-          value : EndKept x.owner d → end_kind 𝓜 s' x.owner d ≡ Val v x.caller
+          value : EndKept x.owner l.cell → end_kind 𝓜 s' x.owner l.cell ≡ Val v x.caller
           value (as_before p w) = w v x.caller q
           value (newly_bound y caller j p w) =
-              let was = end_self 𝓜 s x.owner d (Var caller) j refl in
+              let was = end_self 𝓜 s x.owner l.cell (Var caller) j refl in
               let z : ◌≡◌ {A = ℕ} 0 1 = cc was in
               absurd (omega arith)

@@ -8,9 +8,8 @@ use lib.Dec.{ltb}
 use borrow.Author.Tests.{ltb-true, not-true}
 use Rattle.numbers.specs.Tests.{or_else, and_l, and_r}
 use Rattle.tables.specs.declared.Kind.{Kind}
-use Rattle.tables.specs.declared.Place.TheVariants.{At}
 use Rattle.tables.specs.Machine.{Machine, Tables}
-use Rattle.tables.specs.Parts.{is_ex, named_by, is_live, is_tainted}
+use Rattle.tables.specs.Parts.{place, is_ex, named_by, is_live, is_tainted}
 use Rattle.tables.specs.Look.{cell, entry, end, end_kind, safe}
 use Rattle.states.specs.Chains.{follow}
 use Rattle.states.specs.Sound.{var_val_or_safe}
@@ -25,7 +24,7 @@ use Rattle.states.proofs.Walks.{follow_live, follow_from}
 use Rattle.states.proofs.Onward.{live_exported, after_live, end_kept, EndKept, as_before, newly_bound}
 
 -- a safe EX names an untainted entry of a lower worker
-pub safe_ex : (𝓜 : Machine) (s : Tables) (v o e : ℕ) (k : Kind) → safe 𝓜 s v k ≡ true → named_by k ≡ At o e → (o < v) × (is_tainted (entry 𝓜 s o e) ≡ false)
+pub safe_ex : (𝓜 : Machine) (s : Tables) (v o e : ℕ) (k : Kind) → safe 𝓜 s v k ≡ true → named_by k ≡ place o e → (o < v) × (is_tainted (entry 𝓜 s o e) ≡ false)
 unfolding safe
 safe_ex 𝓜 s v o e k t q =
     let x = named_ex o e k q in
@@ -34,11 +33,11 @@ safe_ex 𝓜 s v o e k t q =
     (below, not-true (is_tainted (entry 𝓜 s o e)) (and_r (ltb o v) (not (is_tainted (entry 𝓜 s o e))) both))
 
 -- an end that names an entry, and is a VAR, a VAL or safe, is safe
-pub good_named : (𝓜 : Machine) (s : Tables) (v o e : ℕ) (k : Kind) → var_val_or_safe 𝓜 s v k ≡ true → named_by k ≡ At o e → safe 𝓜 s v k ≡ true
+pub good_named : (𝓜 : Machine) (s : Tables) (v o e : ℕ) (k : Kind) → var_val_or_safe 𝓜 s v k ≡ true → named_by k ≡ place o e → safe 𝓜 s v k ≡ true
 good_named 𝓜 s v o e k t q = good_ex 𝓜 s v k (ap is_ex (named_ex o e k q).is) t
 
 -- an EX of a worker names an entry of another
-named_other : (𝓜 : Machine) (s : Tables) (F : Facts 𝓜 s) (v d o e : ℕ) → named_by (cell 𝓜 s v d) ≡ At o e → o ≡ v → ⊥
+named_other : (𝓜 : Machine) (s : Tables) (F : Facts 𝓜 s) (v d o e : ℕ) → named_by (cell 𝓜 s v d) ≡ place o e → o ≡ v → ⊥
 named_other 𝓜 s F v d o e q w =
     let x = named_ex o e (cell 𝓜 s v d) q in
     (cell_fact 𝓜 s F v d x.is).1 w
@@ -51,22 +50,22 @@ module _ (𝓜 : Machine) (s : Tables) (h : Move) (F : Facts 𝓜 s) (K : Keeps 
   F' = facts_kept 𝓜 s h F K
 
   -- a step after the move from an entry that was there before
-  old_step : (a b o e : ℕ) → is_live (entry 𝓜 s a b) ≡ true → follow 𝓜 s' (At a b) ≡ At o e → (is_live (entry 𝓜 s o e) ≡ true) × (r o e < r a b)
+  old_step : (a b o e : ℕ) → is_live (entry 𝓜 s a b) ≡ true → follow 𝓜 s' (place a b) ≡ place o e → (is_live (entry 𝓜 s o e) ≡ true) × (r o e < r a b)
   old_step a b o e t q =
       let l = the_live (entry 𝓜 s a b) t in
       let now = follow_from 𝓜 s' a b o e q in
       let l' = after_live 𝓜 s h F K a b l (ap is_live now.is) in
       let x = live_exported 𝓜 s h F K a b l in
-      let names : named_by (end_kind 𝓜 s' a l.cell) ≡ At o e = sym (follow_live 𝓜 s' a b l'.2) ∙ q in
+      let names : named_by (end_kind 𝓜 s' a l.cell) ≡ place o e = sym (follow_live 𝓜 s' a b l'.2) ∙ q in
       go l.cell (follow_live 𝓜 s a b l.is) names (end_kept 𝓜 s h F K a l.cell x.0 x.1)
     where
-      go : (d : ℕ) → follow 𝓜 s (At a b) ≡ named_by (end_kind 𝓜 s a d) → named_by (end_kind 𝓜 s' a d) ≡ At o e → EndKept 𝓜 s h F K a d
+      go : (d : ℕ) → follow 𝓜 s (place a b) ≡ named_by (end_kind 𝓜 s a d) → named_by (end_kind 𝓜 s' a d) ≡ place o e → EndKept 𝓜 s h F K a d
           → (is_live (entry 𝓜 s o e) ≡ true) × (r o e < r a b)
       go d was names (as_before p v) =
-          let step : follow 𝓜 s (At a b) ≡ At o e = was ∙ sym p ∙ names in
-          (follow_place 𝓜 s F (At a b) o e step, R.falls a b o e step)
+          let step : follow 𝓜 s (place a b) ≡ place o e = was ∙ sym p ∙ names in
+          (follow_place 𝓜 s F (place a b) o e step, R.falls a b o e step)
       go d was names (newly_bound y caller i p safe_y) =
-          let named : named_by (cell 𝓜 s a y) ≡ At o e = sym (ap named_by p) ∙ names in
+          let named : named_by (cell 𝓜 s a y) ≡ place o e = sym (ap named_by p) ∙ names in
           let z = safe_ex 𝓜 s a o e (cell 𝓜 s a y) safe_y named in
           let alive = named_place 𝓜 s F a y o e named in
           (alive, omega (arith, R.own o e alive z.1, R.low a b t, z.0))
@@ -75,7 +74,7 @@ module _ (𝓜 : Machine) (s : Tables) (h : Move) (F : Facts 𝓜 s) (K : Keeps 
   pub record Fits (r' : ℕ → ℕ → ℕ) (a b : ℕ) : Type 0 where
     pub low : a ≤ r' a b
     pub own : is_tainted (entry 𝓜 s' a b) ≡ false → r' a b ≡ a
-    pub above : (o e : ℕ) → is_live (entry 𝓜 s o e) ≡ true → follow 𝓜 s' (At a b) ≡ At o e → r o e < r' a b
+    pub above : (o e : ℕ) → is_live (entry 𝓜 s o e) ≡ true → follow 𝓜 s' (place a b) ≡ place o e → r o e < r' a b
 
   -- an entry that is live after the move was live before, or is the one that the move made
   abbrev OldOrNew : (ℕ → ℕ → ℕ) → ℕ → ℕ → Type 0
@@ -106,12 +105,12 @@ module _ (𝓜 : Machine) (s : Tables) (h : Move) (F : Facts 𝓜 s) (K : Keeps 
       own a b t u (inl l) = agree a b l ∙ R.own a b l (sym (live_kept 𝓜 s h F K a b l t).1 ∙ u)
       own a b t u (inr n) = n.1.own u
 
-      falls : (a b o e : ℕ) → follow 𝓜 s' (At a b) ≡ At o e → OldOrNew r' a b → r' o e < r' a b
+      falls : (a b o e : ℕ) → follow 𝓜 s' (place a b) ≡ place o e → OldOrNew r' a b → r' o e < r' a b
       falls a b o e q (inl l) =
           let z = old_step a b o e l q in
           omega (arith, agree a b l, agree o e z.0, z.1)
       falls a b o e q (inr n) =
-          let alive = other (old_or_new o e (follow_place 𝓜 s' F' (At a b) o e q)) (follow_from 𝓜 s' a b o e q) in
+          let alive = other (old_or_new o e (follow_place 𝓜 s' F' (place a b) o e q)) (follow_from 𝓜 s' a b o e q) in
           omega (arith, agree o e alive, n.1.above o e alive q)
         where
           -- it leads to an entry of another worker

@@ -1,5 +1,6 @@
 -- "A Read's entry is the one its EX names, or one reached from there by following ends and references": the soundness test looks at as many
 -- places as the machine has entries, and that misses none, in any state, loops included. Assumes nothing.
+use Rattle.std.specs.Prelude.{None, Some}
 use Prim.Native.Nat.{ℕ, zero, suc, ◌+◌, ◌*◌, ◌-◌, ◌<◌, ◌≤◌}
 use native.Mathlib.Decide.{dec_lt}
 use native.Mathlib.Omega.{arith}
@@ -8,10 +9,8 @@ use mathlib.Core.Bool.{true}
 use lib.Arith.{digits_lt}
 use Rattle.numbers.specs.Grid.{grid_row, grid_column}
 use Rattle.numbers.specs.Pigeon.{pigeon}
-use Rattle.tables.specs.declared.Place.{Place}
-use Rattle.tables.specs.declared.Place.TheVariants.{Nowhere, At}
 use Rattle.tables.specs.Machine.{Machine, Tables}
-use Rattle.tables.specs.Parts.{is_live}
+use Rattle.tables.specs.Parts.{Place, place, is_live}
 use Rattle.tables.specs.Look.{entry}
 use Rattle.states.specs.Chains.{follow, ahead}
 use Rattle.states.specs.Sound.{reached}
@@ -23,13 +22,13 @@ use Rattle.states.proofs.Walks.{ahead_nowhere, follow_from, ahead_add, walk_ahea
 record LiveAt (𝓜 : Machine) (s : Tables) (p : Place) : Type 0 where
   owner : ℕ
   number : ℕ
-  is : p ≡ At owner number
+  is : p ≡ place owner number
   live : is_live (entry 𝓜 s owner number) ≡ true
 
 -- its number among all entries
 index : Machine → Place → ℕ
-index 𝓜 Nowhere = 0
-index 𝓜 (At a b) = a * 𝓜.entries + b
+index 𝓜 None = 0
+index 𝓜 (Some p) = p.owner * 𝓜.entries + p.entry
 
 module _ (𝓜 : Machine) (s : Tables) where
   index_less : (p : Place) → LiveAt 𝓜 s p → index 𝓜 p < 𝓜.workers * 𝓜.entries
@@ -47,23 +46,23 @@ module _ (𝓜 : Machine) (s : Tables) where
       let same : l.owner * 𝓜.entries + l.number ≡ k.owner * 𝓜.entries + k.number = sym (ap (index 𝓜) l.is) ∙ e ∙ ap (index 𝓜) k.is in
       let row = grid_row 𝓜.entries l.owner l.number k.owner k.number a b same in
       let column = grid_column 𝓜.entries l.owner l.number k.owner k.number a b same in
-      l.is ∙ ap₂ At row column ∙ sym k.is
+      l.is ∙ ap₂ place row column ∙ sym k.is
 
   -- a place from which a walk comes to an entry is a live one
-  on_the_way : (m : ℕ) (p : Place) (o e : ℕ) → ahead 𝓜 s (suc m) p ≡ At o e → LiveAt 𝓜 s p
+  on_the_way : (m : ℕ) (p : Place) (o e : ℕ) → ahead 𝓜 s (suc m) p ≡ place o e → LiveAt 𝓜 s p
   unfolding ahead follow
-  on_the_way m Nowhere o e q = nowhere_at (sym (ahead_nowhere 𝓜 s m) ∙ q)
-  on_the_way m (At a b) o e q = go (follow 𝓜 s (At a b)) refl
+  on_the_way m None o e q = nowhere_at (sym (ahead_nowhere 𝓜 s m) ∙ q)
+  on_the_way m (Some p) o e q = go (follow 𝓜 s (Some p)) refl
     where
-      go : (r : Place) → follow 𝓜 s (At a b) ≡ r → LiveAt 𝓜 s (At a b)
-      go Nowhere i = nowhere_at (sym (ahead_nowhere 𝓜 s m) ∙ sym (ap (ahead 𝓜 s m) i) ∙ q)
-      go (At o' e') i = record { owner = a; number = b; is = refl; live = ap is_live (follow_from 𝓜 s a b o' e' i).is }
+      go : (r : Place) → follow 𝓜 s (Some p) ≡ r → LiveAt 𝓜 s (Some p)
+      go None i = nowhere_at (sym (ahead_nowhere 𝓜 s m) ∙ sym (ap (ahead 𝓜 s m) i) ∙ q)
+      go (Some r) i = record { owner = p.owner; number = p.entry; is = refl; live = ap is_live (follow_from 𝓜 s p.owner p.entry r.owner r.entry i).is }
 
   module _ (from : Place) (o e : ℕ) (live : is_live (entry 𝓜 s o e) ≡ true) where
     split : (i n : ℕ) → i ≤ n → ahead 𝓜 s n from ≡ ahead 𝓜 s (n - i) (ahead 𝓜 s i from)
     split i n l = ap (λ (k : ℕ). ahead 𝓜 s k from) (omega arith) ∙ ahead_add 𝓜 s i (n - i) from
 
-    visited : (n : ℕ) → ahead 𝓜 s n from ≡ At o e → (i : ℕ) → i ≤ n → LiveAt 𝓜 s (ahead 𝓜 s i from)
+    visited : (n : ℕ) → ahead 𝓜 s n from ≡ place o e → (i : ℕ) → i ≤ n → LiveAt 𝓜 s (ahead 𝓜 s i from)
     visited n q i l = go (dec_lt i n)
       where
         go : Dec (i < n) → LiveAt 𝓜 s (ahead 𝓜 s i from)
@@ -75,7 +74,7 @@ module _ (𝓜 : Machine) (s : Tables) where
             record { owner = o; number = e; is = ap (λ (k : ℕ). ahead 𝓜 s k from) last ∙ q; live = live }
 
     -- a walk that is too long visits a place twice, and can be cut short
-    cut : (n : ℕ) → 𝓜.workers * 𝓜.entries ≤ n → ahead 𝓜 s n from ≡ At o e → (m : ℕ) × (m < n) × (ahead 𝓜 s m from ≡ At o e)
+    cut : (n : ℕ) → 𝓜.workers * 𝓜.entries ≤ n → ahead 𝓜 s n from ≡ place o e → (m : ℕ) × (m < n) × (ahead 𝓜 s m from ≡ place o e)
     cut n long q =
         let met = visited n q in
         let t = pigeon (𝓜.workers * 𝓜.entries) (λ i. index 𝓜 (ahead 𝓜 s i from)) (λ i l. index_less (ahead 𝓜 s i from) (met i (omega arith))) in
@@ -88,26 +87,26 @@ module _ (𝓜 : Machine) (s : Tables) where
           ahead_add 𝓜 s i (n - j) from ∙ ap (ahead 𝓜 s (n - j)) same ∙ sym (split j n j_in) ∙ q,
         )
 
-    shorten : (fuel n : ℕ) → n < fuel → ahead 𝓜 s n from ≡ At o e → (m : ℕ) × (m < 𝓜.workers * 𝓜.entries) × (ahead 𝓜 s m from ≡ At o e)
+    shorten : (fuel n : ℕ) → n < fuel → ahead 𝓜 s n from ≡ place o e → (m : ℕ) × (m < 𝓜.workers * 𝓜.entries) × (ahead 𝓜 s m from ≡ place o e)
     shorten zero n l q = absurd (omega arith)
     shorten (suc fuel) n l q = go (dec_lt n (𝓜.workers * 𝓜.entries)) (shorten fuel)
       where
         go : Dec (n < 𝓜.workers * 𝓜.entries)
-            → ((k : ℕ) → k < fuel → ahead 𝓜 s k from ≡ At o e → (m : ℕ) × (m < 𝓜.workers * 𝓜.entries) × (ahead 𝓜 s m from ≡ At o e))
-            → (m : ℕ) × (m < 𝓜.workers * 𝓜.entries) × (ahead 𝓜 s m from ≡ At o e)
+            → ((k : ℕ) → k < fuel → ahead 𝓜 s k from ≡ place o e → (m : ℕ) × (m < 𝓜.workers * 𝓜.entries) × (ahead 𝓜 s m from ≡ place o e))
+            → (m : ℕ) × (m < 𝓜.workers * 𝓜.entries) × (ahead 𝓜 s m from ≡ place o e)
         go (yes less) rec = (n, less, q)
         go (no more) rec =
             let c = cut n (omega arith) q in
             rec c.0 (omega (arith, c.1)) c.2
 
     -- reached in any number of steps: the test says yes; and the other way round
-    pub reached_of : (n : ℕ) → ahead 𝓜 s n from ≡ At o e → reached 𝓜 s from o e ≡ true
+    pub reached_of : (n : ℕ) → ahead 𝓜 s n from ≡ place o e → reached 𝓜 s from o e ≡ true
     unfolding reached
     reached_of n q =
         let r = shorten (suc n) n (omega arith) q in
         ahead_walk 𝓜 s o e r.0 (𝓜.workers * 𝓜.entries) from r.1 r.2
 
-  pub reached-ahead : (from : Place) (o e : ℕ) → reached 𝓜 s from o e ≡ true → (n : ℕ) × (ahead 𝓜 s n from ≡ At o e)
+  pub reached-ahead : (from : Place) (o e : ℕ) → reached 𝓜 s from o e ≡ true → (n : ℕ) × (ahead 𝓜 s n from ≡ place o e)
   unfolding reached
   reached-ahead from o e t =
       let r = walk_ahead 𝓜 s o e (𝓜.workers * 𝓜.entries) from t in

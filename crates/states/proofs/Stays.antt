@@ -1,4 +1,5 @@
 -- All that holds of a reached state stays under a move that keeps and brings what it must. Assumes nothing.
+use Rattle.std.specs.Prelude.{None, Some}
 use Prim.Native.Nat.{ℕ, suc, ◌+◌, ◌<◌, ◌≤◌}
 use native.Mathlib.Omega.{arith}
 use mathlib.Core.Path.{◌≡◌, refl, sym, ap, ap₂, ◌∙◌}
@@ -6,10 +7,8 @@ use mathlib.Core.Bool.{Bool, true, false, ◌&&◌, not, cond}
 use lib.Dec.{eqb}
 use borrow.Author.Tests.{not-true}
 use Rattle.numbers.specs.Tests.{absurd_bool, and_l, and_r, not_yes}
-use Rattle.tables.specs.declared.Place.{Place}
-use Rattle.tables.specs.declared.Place.TheVariants.{Nowhere, At}
 use Rattle.tables.specs.Machine.{Machine, Tables}
-use Rattle.tables.specs.Parts.{named_by, is_live, is_tainted}
+use Rattle.tables.specs.Parts.{Place, place, named_by, is_live, is_tainted}
 use Rattle.tables.specs.Look.{entry, end_kind}
 use Rattle.states.specs.Chains.{follow}
 use Rattle.states.specs.Facts.{Facts, Reads}
@@ -23,8 +22,8 @@ use Rattle.states.proofs.Carried.{reads_kept, known_kept_all}
 use Rattle.states.proofs.Rank.{safe_ex, good_named, ranked_by, Fits}
 
 rank_at : (ℕ → ℕ → ℕ) → Place → ℕ
-rank_at r Nowhere = 0
-rank_at r (At a b) = r a b
+rank_at r None = 0
+rank_at r (Some p) = r p.owner p.entry
 
 module _ (𝓜 : Machine) (s : Tables) (h : Move) (F : Facts 𝓜 s) (K : Keeps 𝓜 s h) where
   abbrev s' : Tables
@@ -32,7 +31,7 @@ module _ (𝓜 : Machine) (s : Tables) (h : Move) (F : Facts 𝓜 s) (K : Keeps 
 
   -- a new entry that is tainted stands above what it leads to, an untainted one at its worker
   new_rank : (ℕ → ℕ → ℕ) → Bool → ℕ
-  new_rank r tainted = cond tainted (suc (h.o + rank_at r (follow 𝓜 s' (At h.o h.e)))) h.o
+  new_rank r tainted = cond tainted (suc (h.o + rank_at r (follow 𝓜 s' (place h.o h.e)))) h.o
 
   is_new : ℕ → ℕ → Bool
   is_new a b = not (is_live h.x₀) && (eqb h.o a && eqb h.e b)
@@ -69,17 +68,17 @@ module _ (𝓜 : Machine) (s : Tables) (h : Move) (F : Facts 𝓜 s) (K : Keeps 
       at_least true = omega arith
       at_least false = omega arith
 
-      above : (t : Bool) → is_tainted h.x ≡ t → (o e : ℕ) → is_live (entry 𝓜 s o e) ≡ true → follow 𝓜 s' (At h.o h.e) ≡ At o e → r o e < new_rank r t
+      above : (t : Bool) → is_tainted h.x ≡ t → (o e : ℕ) → is_live (entry 𝓜 s o e) ≡ true → follow 𝓜 s' (place h.o h.e) ≡ place o e → r o e < new_rank r t
       above true u o e l q = omega (arith, ap (rank_at r) q)
       above false u o e l q =
           let F' = facts_kept 𝓜 s h F K in
           let lv = the_live (entry 𝓜 s' h.o h.e) (ap is_live here ∙ live) in
           let end = end_kind 𝓜 s' h.o lv.cell in
-          let names : named_by end ≡ At o e = sym (follow_live 𝓜 s' h.o h.e lv.is) ∙ q in
+          let names : named_by end ≡ place o e = sym (follow_live 𝓜 s' h.o h.e lv.is) ∙ q in
           let clean : lv.tainted ≡ false = sym (ap is_tainted lv.is) ∙ ap is_tainted here ∙ u in
           let good = (live_fact 𝓜 s' F' h.o h.e lv).3 clean in
           let z = safe_ex 𝓜 s' h.o o e end (good_named 𝓜 s' h.o o e end good names) names in
-          let alive' = follow_place 𝓜 s' F' (At h.o h.e) o e q in
+          let alive' = follow_place 𝓜 s' F' (place h.o h.e) o e q in
           omega (arith, z.0, R.own o e l (sym (live_kept 𝓜 s h F K o e l alive').1 ∙ z.1))
 
 -- what a call makes of a sound state is sound, loops included,

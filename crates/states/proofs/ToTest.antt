@@ -10,12 +10,10 @@ use Rattle.numbers.specs.Tests.{and_i, or_l, or_true}
 use Rattle.numbers.specs.BelowLaws.{all_of, count_once}
 use Rattle.tables.specs.declared.Kind.{Kind}
 use Rattle.tables.specs.declared.Kind.TheVariants.{Free, Var, Val, Ref, Ex}
-use Rattle.tables.specs.declared.Holding.{Holding}
-use Rattle.tables.specs.declared.Holding.TheVariants.{Unused, Live}
 use Rattle.tables.specs.declared.Message.{Message}
 use Rattle.tables.specs.declared.Message.TheVariants.{Empty, Reference, Release, Read, Answer, Ask, Supply}
 use Rattle.tables.specs.Machine.{Machine, Tables}
-use Rattle.tables.specs.Parts.{is_free, reading_of, is_reading, is_asking, ex_names, named_by, entry_names, entry_weight}
+use Rattle.tables.specs.Parts.{Holding, live, is_free, reading_of, is_reading, is_asking, ex_names, named_by, entry_names, entry_weight}
 use Rattle.tables.specs.Look.{cell, entry, end_kind, booked, free_cells, message}
 use Rattle.states.specs.Sound.{reads_for, asks_for, kind_in_range, message_in_range, cell_in_range, entry_in_range, exes_naming, cell_names, entries_naming, var_val_or_safe, entry_names_cell, reads_of, asks_of, cell_awaited, message_has_its, message_holds, held, entry_weighs, room_for_booked, point1, point2, point3, point4, point5, point6, sound}
 use Rattle.states.specs.Machines.{Laws}
@@ -24,6 +22,7 @@ use Rattle.states.proofs.Inside.{cell_inside, each_cell_of, each_entry_of, each_
 use Rattle.states.proofs.Named.{eq_both, on_ex_lem, ex_not_free}
 use Rattle.states.proofs.Reach.{reached_of}
 use Rattle.states.proofs.Derived.{cell_used, live_used, held_le, held_live, ex_held, ex_live, names_live, sent_held, reading_cell, asking_cell, read_live, cell_fact, message_fact}
+use Rattle.std.specs.Prelude.{None, Some}
 
 -- a test that a count demands only where a mark is set
 awaits : (b : Bool) (n : ℕ) → n ≡ bit b → (not b || eqb n 1) ≡ true
@@ -59,11 +58,11 @@ module _ (𝓜 : Machine) (L : Laws 𝓜) (s : Tables) (F : Facts 𝓜 s) (R : R
       and_i (in_use w (is_free (cell 𝓜 s w c)) (cell_used 𝓜 s F w c)) (kind_in_range_lem w c (cell 𝓜 s w c) refl)
 
   entry_in_range_lem : (w e : ℕ) (x : Holding) → entry 𝓜 s w e ≡ x → entry_in_range 𝓜 s w e x ≡ true
-  entry_in_range_lem w e Unused q = and_i (or_true (ltb w s.p)) refl
-  entry_in_range_lem w e (Live c n t) q =
-      let f : EntryFact 𝓜 s w (Live c n t) = rw q at (F.entries w e) in
-      and_i (or_l false (worker_in_lem w (cell_used 𝓜 s F w c f.2)))
-      (and_i (and_i (lt-ltb c 𝓜.cells (cell_inside 𝓜 s w c f.2).1) (le-leb n 𝓜.ceiling f.0)) (le-leb 1 n f.1))
+  entry_in_range_lem w e None q = and_i (or_true (ltb w s.p)) refl
+  entry_in_range_lem w e (Some l) q =
+      let f : EntryFact 𝓜 s w (live l.cell l.weight l.tainted) = rw q at (F.entries w e) in
+      and_i (or_l false (worker_in_lem w (cell_used 𝓜 s F w l.cell f.2)))
+      (and_i (and_i (lt-ltb l.cell 𝓜.cells (cell_inside 𝓜 s w l.cell f.2).1) (le-leb l.weight 𝓜.ceiling f.0)) (le-leb 1 l.weight f.1))
 
   place_in_range : (w c : ℕ) → is_free (cell 𝓜 s w c) ≡ false → (ltb w s.p && ltb c 𝓜.cells) ≡ true
   place_in_range w c h =
@@ -127,14 +126,14 @@ module _ (𝓜 : Machine) (L : Laws 𝓜) (s : Tables) (F : Facts 𝓜 s) (R : R
 
   names_cell : (w e : ℕ) (x : Holding) → entry 𝓜 s w e ≡ x → entry_names_cell 𝓜 s w e x ≡ true
   unfolding entries_naming
-  names_cell w e Unused q = refl
-  names_cell w e (Live c n t) q =
-      let f : EntryFact 𝓜 s w (Live c n t) = rw q at (F.entries w e) in
+  names_cell w e None q = refl
+  names_cell w e (Some l) q =
+      let f : EntryFact 𝓜 s w (live l.cell l.weight l.tainted) = rw q at (F.entries w e) in
       and_i (and_i (ap not f.2)
-      (le-leb (entries_naming 𝓜 s w c) 1 (count_once 𝓜.entries (λ b. entry_names c (entry 𝓜 s w b)) (λ i j a b u v. F.entry_once w i j c u v))))
-      (end_good t f.3)
+      (le-leb (entries_naming 𝓜 s w l.cell) 1 (count_once 𝓜.entries (λ b. entry_names l.cell (entry 𝓜 s w b)) (λ i j a b u v. F.entry_once w i j l.cell u v))))
+      (end_good l.tainted f.3)
     where
-      end_good : (b : Bool) → (b ≡ false → var_val_or_safe 𝓜 s w (end_kind 𝓜 s w c) ≡ true) → (b || var_val_or_safe 𝓜 s w (end_kind 𝓜 s w c)) ≡ true
+      end_good : (b : Bool) → (b ≡ false → var_val_or_safe 𝓜 s w (end_kind 𝓜 s w l.cell) ≡ true) → (b || var_val_or_safe 𝓜 s w (end_kind 𝓜 s w l.cell)) ≡ true
       end_good true h = refl
       end_good false h = h refl
 
@@ -169,8 +168,8 @@ module _ (𝓜 : Machine) (L : Laws 𝓜) (s : Tables) (F : Facts 𝓜 s) (R : R
 
   -- ---- point 5
   weighs : (o e : ℕ) (x : Holding) → entry 𝓜 s o e ≡ x → entry_weighs 𝓜 s o e x ≡ true
-  weighs o e Unused q = refl
-  weighs o e (Live c n t) q = eq-eqb n (held 𝓜 s o e) (sym (ap entry_weight q) ∙ F.weighed o e)
+  weighs o e None q = refl
+  weighs o e (Some l) q = eq-eqb l.weight (held 𝓜 s o e) (sym (ap entry_weight q) ∙ F.weighed o e)
 
   pub facts_sound : sound 𝓜 s ≡ true
   unfolding sound point1 point2 point3 point4 point5 point6

@@ -1,4 +1,5 @@
 -- Walks along ends and references: from nowhere, from a live entry, one after the other, and as the soundness test makes them. Assumes nothing.
+use Rattle.std.specs.Prelude.{None, Some}
 use Prim.Native.Nat.{ℕ, zero, suc, ◌+◌, ◌<◌}
 use native.Mathlib.Nat.{zero-add, suc-add}
 use native.Mathlib.Omega.{arith}
@@ -6,35 +7,31 @@ use mathlib.Core.Path.{◌≡◌, refl, ap, ◌∙◌}
 use mathlib.Core.Bool.{Bool, true, false, cond}
 use Rattle.numbers.specs.Below.{walk_meets}
 use Rattle.numbers.specs.Tests.{absurd_bool}
-use Rattle.tables.specs.declared.Holding.{Holding}
-use Rattle.tables.specs.declared.Holding.TheVariants.{Unused, Live}
-use Rattle.tables.specs.declared.Place.{Place}
-use Rattle.tables.specs.declared.Place.TheVariants.{Nowhere, At}
 use Rattle.tables.specs.Machine.{Machine, Tables}
-use Rattle.tables.specs.Parts.{named_by, is_at}
+use Rattle.tables.specs.Parts.{Holding, live, Place, place, named_by, is_at}
 use Rattle.tables.specs.Look.{entry, end_kind}
 use Rattle.states.specs.Chains.{through, follow, ahead, EndsIn}
 use Rattle.states.proofs.Named.{eq_both, both_eq, nowhere_at, IsLive}
 
 -- from nowhere no step leads on
-pub ahead_nowhere : (𝓜 : Machine) (s : Tables) (n : ℕ) → ahead 𝓜 s n Nowhere ≡ Nowhere
+pub ahead_nowhere : (𝓜 : Machine) (s : Tables) (n : ℕ) → ahead 𝓜 s n None ≡ None
 unfolding ahead follow
 ahead_nowhere 𝓜 s zero = refl
 ahead_nowhere 𝓜 s (suc n) = ahead_nowhere 𝓜 s n
 
 -- a live entry, taken apart, with what a step from it says
-pub follow_live : (𝓜 : Machine) (s : Tables) (a b : ℕ) {d n : ℕ} {t : Bool} → entry 𝓜 s a b ≡ Live d n t → follow 𝓜 s (At a b) ≡ named_by (end_kind 𝓜 s a d)
+pub follow_live : (𝓜 : Machine) (s : Tables) (a b : ℕ) {d n : ℕ} {t : Bool} → entry 𝓜 s a b ≡ live d n t → follow 𝓜 s (place a b) ≡ named_by (end_kind 𝓜 s a d)
 unfolding follow
 follow_live 𝓜 s a b q = ap (through 𝓜 s a) q
 
 -- where a step leads somewhere, it is from a live entry
-pub follow_from : (𝓜 : Machine) (s : Tables) (a b o e : ℕ) → follow 𝓜 s (At a b) ≡ At o e → IsLive (entry 𝓜 s a b)
+pub follow_from : (𝓜 : Machine) (s : Tables) (a b o e : ℕ) → follow 𝓜 s (place a b) ≡ place o e → IsLive (entry 𝓜 s a b)
 unfolding follow
 follow_from 𝓜 s a b o e q = go (entry 𝓜 s a b) refl q
   where
-    go : (x : Holding) → entry 𝓜 s a b ≡ x → through 𝓜 s a x ≡ At o e → IsLive (entry 𝓜 s a b)
-    go Unused i p = nowhere_at p
-    go (Live d n t) i p = record { cell = d; weight = n; tainted = t; is = i }
+    go : (x : Holding) → entry 𝓜 s a b ≡ x → through 𝓜 s a x ≡ place o e → IsLive (entry 𝓜 s a b)
+    go None i p = nowhere_at p
+    go (Some l) i p = record { cell = l.cell; weight = l.weight; tainted = l.tainted; is = i }
 
 -- one walk after the other
 pub ahead_add : (𝓜 : Machine) (s : Tables) (n k : ℕ) (p : Place) → ahead 𝓜 s (n + k) p ≡ ahead 𝓜 s k (ahead 𝓜 s n p)
@@ -49,27 +46,27 @@ ends_before 𝓜 s n p q v h x =
 
 -- a walk that meets a place is ahead of where it starts
 pub walk_ahead : (𝓜 : Machine) (s : Tables) (o e n : ℕ) (p : Place) → walk_meets (is_at o e) (follow 𝓜 s) n p ≡ true
-    → (k : ℕ) × (k < n) × (ahead 𝓜 s k p ≡ At o e)
+    → (k : ℕ) × (k < n) × (ahead 𝓜 s k p ≡ place o e)
 unfolding walk_meets ahead
 walk_ahead 𝓜 s o e zero p h = absurd_bool h refl
 walk_ahead 𝓜 s o e (suc n) p h = go (is_at o e p) refl h (walk_ahead 𝓜 s o e n (follow 𝓜 s p))
   where
-    at : (q : Place) → is_at o e q ≡ true → q ≡ At o e
-    at Nowhere t = absurd_bool t refl
-    at (At o' e') t =
-        let q = both_eq o' o e' e t in
+    at : (q : Place) → is_at o e q ≡ true → q ≡ place o e
+    at None t = absurd_bool t refl
+    at (Some p) t =
+        let q = both_eq p.owner o p.entry e t in
         rw (q.0, q.1)
 
     go : (b : Bool) → is_at o e p ≡ b → cond b true (walk_meets (is_at o e) (follow 𝓜 s) n (follow 𝓜 s p)) ≡ true
-        → (walk_meets (is_at o e) (follow 𝓜 s) n (follow 𝓜 s p) ≡ true → (k : ℕ) × (k < n) × (ahead 𝓜 s k (follow 𝓜 s p) ≡ At o e))
-        → (k : ℕ) × (k < suc n) × (ahead 𝓜 s k p ≡ At o e)
+        → (walk_meets (is_at o e) (follow 𝓜 s) n (follow 𝓜 s p) ≡ true → (k : ℕ) × (k < n) × (ahead 𝓜 s k (follow 𝓜 s p) ≡ place o e))
+        → (k : ℕ) × (k < suc n) × (ahead 𝓜 s k p ≡ place o e)
     go true t m later = (0, omega arith, at p t)
     go false t m later =
         let r = later m in
         (suc r.0, omega (arith, r.1), r.2)
 
 -- a place that is ahead is met by the walk
-pub ahead_walk : (𝓜 : Machine) (s : Tables) (o e k n : ℕ) (p : Place) → k < n → ahead 𝓜 s k p ≡ At o e → walk_meets (is_at o e) (follow 𝓜 s) n p ≡ true
+pub ahead_walk : (𝓜 : Machine) (s : Tables) (o e k n : ℕ) (p : Place) → k < n → ahead 𝓜 s k p ≡ place o e → walk_meets (is_at o e) (follow 𝓜 s) n p ≡ true
 unfolding walk_meets ahead
 ahead_walk 𝓜 s o e k zero p l h = absurd (omega arith)
 ahead_walk 𝓜 s o e zero (suc n) p l h = rw (h, eq_both o e)

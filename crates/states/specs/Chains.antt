@@ -1,21 +1,17 @@
 -- Chains: the end of an entry's cell, one step along ends and references, what a chain ends in, and the context that it leads to.
 -- Assumes nothing.
-use Rattle.std.specs.Prelude.{ℕ, zero, suc, ◌≡◌, true, ◌||◌}
+use Rattle.std.specs.Prelude.{ℕ, zero, suc, ◌≡◌, true, ◌||◌, None, Some}
 use Rattle.tables.specs.declared.Kind.{Kind}
 use Rattle.tables.specs.declared.Kind.TheVariants.{Free, Val}
-use Rattle.tables.specs.declared.Holding.{Holding}
-use Rattle.tables.specs.declared.Holding.TheVariants.{Unused, Live}
-use Rattle.tables.specs.declared.Place.{Place}
-use Rattle.tables.specs.declared.Place.TheVariants.{Nowhere, At}
 use Rattle.tables.specs.Machine.{Machine, Tables}
-use Rattle.tables.specs.Parts.{is_var, is_val, named_by, entry_names}
+use Rattle.tables.specs.Parts.{Holding, Place, place, is_var, is_val, named_by, entry_names}
 use Rattle.tables.specs.Look.{cell, entry, end_kind}
 
 module _ (𝓜 : Machine) (s : Tables) where
   -- the end of the cell that a live entry of worker o names; nothing for a free entry
   abbrev pub entry_end : ℕ → Holding → Kind
-  entry_end o Unused = Free
-  entry_end o (Live c n t) = end_kind 𝓜 s o c
+  entry_end o None = Free
+  entry_end o (Some l) = end_kind 𝓜 s o l.cell
 
   -- the reference that this end is
   abbrev pub through : ℕ → Holding → Place
@@ -23,8 +19,8 @@ module _ (𝓜 : Machine) (s : Tables) where
 
   -- one step along ends and references
   unfoldable pub follow : Place → Place
-  follow Nowhere = Nowhere
-  follow (At o e) = through o (entry 𝓜 s o e)
+  follow None = None
+  follow (Some p) = through p.owner (entry 𝓜 s p.owner p.entry)
 
   -- the place that n steps lead to
   unfoldable pub ahead : ℕ → Place → Place
@@ -36,7 +32,7 @@ module _ (𝓜 : Machine) (s : Tables) where
     pub steps : ℕ
     pub owner : ℕ
     pub number : ℕ
-    pub there : ahead steps from ≡ At owner number
+    pub there : ahead steps from ≡ place owner number
     pub caller : ℕ
     pub value : entry_end owner (entry 𝓜 s owner number) ≡ Val v caller
 
@@ -44,6 +40,6 @@ module _ (𝓜 : Machine) (s : Tables) where
   pub record LeadsTo (from : Place) (w c : ℕ) : Type 0 where
     pub steps : ℕ
     pub number : ℕ
-    pub there : ahead steps from ≡ At w number
+    pub there : ahead steps from ≡ place w number
     pub names : entry_names c (entry 𝓜 s w number) ≡ true
     pub var_or_val : (is_var (cell 𝓜 s w c) || is_val (cell 𝓜 s w c)) ≡ true

@@ -1,19 +1,15 @@
 -- The facts of a sound state: what holds of each cell, entry and message, of any two, and of the sums. Everything else that document 01's
 -- six points say follows: ranges, since beyond its table everything is free; live entries, since a free one has weight 0. Assumes nothing.
-use Rattle.std.specs.Prelude.{ℕ, ◌<◌, ◌≤◌, ◌≡◌, true, false, ◌≢◌}
+use Rattle.std.specs.Prelude.{None, Some, ℕ, ◌<◌, ◌≤◌, ◌≡◌, true, false, ◌≢◌}
 use Rattle.numbers.specs.Below.{bit}
 use Rattle.tables.specs.declared.Status.{Status}
 use Rattle.tables.specs.declared.Status.TheVariants.{Idle, Reading, Known}
 use Rattle.tables.specs.declared.Kind.{Kind}
 use Rattle.tables.specs.declared.Kind.TheVariants.{Free, Var, Val, Ref, Ex}
-use Rattle.tables.specs.declared.Holding.{Holding}
-use Rattle.tables.specs.declared.Holding.TheVariants.{Unused, Live}
 use Rattle.tables.specs.declared.Message.{Message}
 use Rattle.tables.specs.declared.Message.TheVariants.{Empty, Reference, Release, Read, Answer, Ask, Supply}
-use Rattle.tables.specs.declared.Place.{Place}
-use Rattle.tables.specs.declared.Place.TheVariants.{At}
 use Rattle.tables.specs.Machine.{Machine, Tables}
-use Rattle.tables.specs.Parts.{is_free, is_ex, is_reading, is_asking, ex_names, named_by, entry_names, entry_weight}
+use Rattle.tables.specs.Parts.{Holding, Place, place, is_free, is_ex, is_reading, is_asking, ex_names, named_by, entry_names, entry_weight}
 use Rattle.tables.specs.Look.{cell, entry, end_kind, booked, free_cells, message}
 use Rattle.states.specs.Chains.{ahead, EndsIn}
 use Rattle.states.specs.Sound.{var_val_or_safe, reads_of, asks_of, held}
@@ -30,9 +26,9 @@ module _ (𝓜 : Machine) (s : Tables) where
 
   -- an entry of worker w
   abbrev pub EntryFact : ℕ → Holding → Type 0
-  EntryFact w Unused = Unit {0}
-  EntryFact w (Live c n t) =
-      (n ≤ 𝓜.ceiling) × (1 ≤ n) × (is_free (cell 𝓜 s w c) ≡ false) × (t ≡ false → var_val_or_safe 𝓜 s w (end_kind 𝓜 s w c) ≡ true)
+  EntryFact w None = Unit {0}
+  EntryFact w (Some l) =
+      (l.weight ≤ 𝓜.ceiling) × (1 ≤ l.weight) × (is_free (cell 𝓜 s w l.cell) ≡ false) × (l.tainted ≡ false → var_val_or_safe 𝓜 s w (end_kind 𝓜 s w l.cell) ≡ true)
 
   abbrev pub MessageFact : Message → Type 0
   MessageFact Empty = Unit {0}
@@ -48,7 +44,7 @@ module _ (𝓜 : Machine) (s : Tables) where
   ReadAhead n Empty = Unit {0}
   ReadAhead n (Reference to o e w) = Unit {0}
   ReadAhead n (Release o e w) = Unit {0}
-  ReadAhead n (Read r c o e) = ahead 𝓜 s n (named_by (cell 𝓜 s r c)) ≡ At o e
+  ReadAhead n (Read r c o e) = ahead 𝓜 s n (named_by (cell 𝓜 s r c)) ≡ place o e
   ReadAhead n (Answer r c v) = Unit {0}
   ReadAhead n (Ask a c o e) = Unit {0}
   ReadAhead n (Supply a c w) = Unit {0}
@@ -84,7 +80,7 @@ module _ (𝓜 : Machine) (s : Tables) where
   KnownFact (Var caller) = Unit {0}
   KnownFact (Val n caller) = Unit {0}
   KnownFact (Ref d) = Unit {0}
-  KnownFact (Ex o e n st a) = StatusFact (At o e) st
+  KnownFact (Ex o e n st a) = StatusFact (place o e) st
 
   abbrev pub AnswerFact : Message → Type 0
   AnswerFact Empty = Unit {0}

@@ -5,12 +5,10 @@ use Rattle.numbers.specs.Below.{bit}
 use Rattle.tables.specs.declared.Status.TheVariants.{Idle}
 use Rattle.tables.specs.declared.Kind.{Kind}
 use Rattle.tables.specs.declared.Kind.TheVariants.{Ref, Ex}
-use Rattle.tables.specs.declared.Holding.{Holding}
 use Rattle.tables.specs.declared.Message.{Message}
 use Rattle.tables.specs.declared.Message.TheVariants.{Empty, Reference, Release, Read, Answer, Ask, Supply}
-use Rattle.tables.specs.declared.Place.TheVariants.{At}
 use Rattle.tables.specs.Machine.{Machine, Tables, with_cells, with_entries, with_slots}
-use Rattle.tables.specs.Parts.{on_ex, is_free, is_var, is_val, is_reading, is_asking, ex_names, is_live, is_tainted, entry_names, entry_weight, goes_to, cell_of}
+use Rattle.tables.specs.Parts.{Holding, place, on_ex, is_free, is_var, is_val, is_reading, is_asking, ex_names, is_live, is_tainted, entry_names, entry_weight, goes_to, cell_of}
 use Rattle.tables.specs.Look.{cell, entry, safe, exported, busy, booked, free_cells, message}
 use Rattle.states.specs.Chains.{follow}
 use Rattle.states.specs.Sound.{reads_for, asks_for, cell_holds, message_holds}
@@ -123,7 +121,7 @@ pub data Makes (𝓜 : Machine) (s : Tables) : Tables → Type 0 where
 pub record Ranked (𝓜 : Machine) (s : Tables) (r : ℕ → ℕ → ℕ) : Type 0 where
   pub low : (a b : ℕ) → is_live (entry 𝓜 s a b) ≡ true → a ≤ r a b
   pub own : (a b : ℕ) → is_live (entry 𝓜 s a b) ≡ true → is_tainted (entry 𝓜 s a b) ≡ false → r a b ≡ a
-  pub falls : (a b o e : ℕ) → follow 𝓜 s (At a b) ≡ At o e → r o e < r a b
+  pub falls : (a b o e : ℕ) → follow 𝓜 s (place a b) ≡ place o e → r o e < r a b
 
 -- What holds of every state reached from a start.
 pub record Invariant (𝓜 : Machine) (s : Tables) : Type 0 where

@@ -1,15 +1,12 @@
 -- "A sound state": the six points of document 01, the test, and the first broken point. Assumes nothing.
-use Rattle.std.specs.Prelude.{ℕ, ◌+◌, ◌*◌, ◌/◌, ◌%◌, Bool, true, false, ◌&&◌, ◌||◌, not, cond, ltb, leb, eqb}
+use Rattle.std.specs.Prelude.{None, Some, ℕ, ◌+◌, ◌*◌, ◌/◌, ◌%◌, Bool, true, false, ◌&&◌, ◌||◌, not, cond, ltb, leb, eqb}
 use Rattle.numbers.specs.Below.{all_below, count_below, bit, walk_meets}
 use Rattle.numbers.specs.Lists.{each, total}
 use Rattle.tables.specs.declared.Kind.{Kind}
-use Rattle.tables.specs.declared.Holding.{Holding}
-use Rattle.tables.specs.declared.Holding.TheVariants.{Unused, Live}
 use Rattle.tables.specs.declared.Message.{Message}
 use Rattle.tables.specs.declared.Message.TheVariants.{Empty, Reference, Release, Read, Answer, Ask, Supply}
-use Rattle.tables.specs.declared.Place.{Place}
 use Rattle.tables.specs.Machine.{Machine, Tables}
-use Rattle.tables.specs.Parts.{on_ex, on_names, is_free, is_var, is_val, is_ex, reading_of, is_reading, is_asking, ex_names, named_by, is_at, is_unused, is_live, entry_names}
+use Rattle.tables.specs.Parts.{Holding, Place, on_ex, on_names, is_free, is_var, is_val, is_ex, reading_of, is_reading, is_asking, ex_names, named_by, is_at, is_unused, is_live, entry_names}
 use Rattle.tables.specs.Look.{cell, entry, end_kind, safe, booked, free_cells}
 use Rattle.states.specs.Chains.{follow}
 
@@ -63,8 +60,8 @@ module _ (𝓜 : Machine) (s : Tables) where
   kind_in_range k = on_names true cell_in (λ o e n st a. worker_in o && entry_in e && weight_in n) k
 
   abbrev pub holding_in_range : Holding → Bool
-  holding_in_range Unused = true
-  holding_in_range (Live c n t) = cell_in c && weight_in n && leb 1 n
+  holding_in_range None = true
+  holding_in_range (Some l) = cell_in l.cell && weight_in l.weight && leb 1 l.weight
 
   abbrev pub message_in_range : Message → Bool
   message_in_range Empty = true
@@ -108,9 +105,9 @@ module _ (𝓜 : Machine) (s : Tables) where
   var_val_or_safe w k = is_var k || is_val k || safe 𝓜 s w k
 
   abbrev pub entry_names_cell : ℕ → ℕ → Holding → Bool
-  entry_names_cell w e Unused = true
-  entry_names_cell w e (Live c n t) =
-      not (is_free (cell 𝓜 s w c)) && leb (entries_naming w c) 1 && (t || var_val_or_safe w (end_kind 𝓜 s w c))
+  entry_names_cell w e None = true
+  entry_names_cell w e (Some l) =
+      not (is_free (cell 𝓜 s w l.cell)) && leb (entries_naming w l.cell) 1 && (l.tainted || var_val_or_safe w (end_kind 𝓜 s w l.cell))
 
   unfoldable pub point3 : Bool
   point3 = each_entry entry_names_cell
@@ -165,8 +162,8 @@ module _ (𝓜 : Machine) (s : Tables) where
   held o e = total (λ x. cell_holds o e x.kind) s.cells + total (λ x. message_holds o e x.message) s.slots
 
   abbrev pub entry_weighs : ℕ → ℕ → Holding → Bool
-  entry_weighs o e Unused = true
-  entry_weighs o e (Live c n t) = eqb n (held o e)
+  entry_weighs o e None = true
+  entry_weighs o e (Some l) = eqb l.weight (held o e)
 
   unfoldable pub point5 : Bool
   point5 = each_entry entry_weighs

@@ -1,8 +1,7 @@
 -- What searches and counts over a worker's cells and entries say of the flat lists, where the code reads. Assumes nothing.
-use Rattle.std.specs.Prelude.{ℕ, ◌+◌, ◌*◌, ◌≤◌, ◌<◌, ◌≡◌}
+use Rattle.std.specs.Prelude.{None, ℕ, ◌+◌, ◌*◌, ◌≤◌, ◌<◌, ◌≡◌}
 use borrow.Author.Tests.{lt-ltb, le-ltb}
 use Rattle.tables.specs.declared.Kind.TheVariants.{Free}
-use Rattle.tables.specs.declared.Holding.TheVariants.{Unused}
 use Rattle.tables.specs.Machine.{Machine, Tables}
 use Rattle.tables.specs.Look.{kind_at, holding_at, cell, entry}
 
@@ -20,6 +19,6 @@ module _ (𝓜 : Machine) (s : Tables) where
   unfolding entry
   entry_in_lem w e h j = rw (lt-ltb w 𝓜.workers h, lt-ltb e 𝓜.entries j)
 
-  pub entry_past : (w e : ℕ) → 𝓜.workers ≤ w → entry 𝓜 s w e ≡ Unused
+  pub entry_past : (w e : ℕ) → 𝓜.workers ≤ w → entry 𝓜 s w e ≡ None
   unfolding entry
   entry_past w e h = rw (le-ltb w 𝓜.workers h)

@@ -1,6 +1,6 @@
 -- What is looked up in the tables, and the tables with one part changed. Total at every number: out of range reads free, and a store
 -- there changes nothing; a slot is in range where the list has it. Assumes nothing.
-use Rattle.std.specs.Prelude.{ℕ, ◌+◌, ◌*◌, Bool, false, ◌&&◌, ◌||◌, not, cond, List, get_or, set, ltb}
+use Rattle.std.specs.Prelude.{None, ℕ, ◌+◌, ◌*◌, Bool, false, ◌&&◌, ◌||◌, not, cond, List, get_or, set, ltb}
 use Rattle.numbers.specs.Below.{lowest, some_below, count_below, bit}
 use Rattle.numbers.specs.Lists.{total}
 use Rattle.tables.specs.declared.Cell.{Cell}
@@ -8,22 +8,20 @@ use Rattle.tables.specs.declared.Entry.{Entry}
 use Rattle.tables.specs.declared.Slot.{Slot}
 use Rattle.tables.specs.declared.Kind.{Kind}
 use Rattle.tables.specs.declared.Kind.TheVariants.{Free}
-use Rattle.tables.specs.declared.Holding.{Holding}
-use Rattle.tables.specs.declared.Holding.TheVariants.{Unused}
 use Rattle.tables.specs.declared.Message.{Message}
 use Rattle.tables.specs.declared.Message.TheVariants.{Empty}
 use Rattle.tables.specs.declared.Room.{Room}
 use Rattle.tables.specs.declared.Change.{Change}
 use Rattle.tables.specs.declared.Change.TheVariants.{Nothing, OfCell, OfSlot, OfCellAndSlot, OfEntryAndSlot}
 use Rattle.tables.specs.Machine.{Machine, Tables, with_cells, with_entries, with_slots}
-use Rattle.tables.specs.Parts.{on_ex, is_free, is_reading, is_asking, ex_names, ref_names, end_from, is_unused, is_live, is_tainted, entry_names, is_empty, goes_to}
+use Rattle.tables.specs.Parts.{Holding, on_ex, is_free, is_reading, is_asking, ex_names, ref_names, end_from, is_unused, is_live, is_tainted, entry_names, is_empty, goes_to}
 
 -- ---- what stands at a place of a list
 abbrev pub kind_at : List Cell → ℕ → Kind
 kind_at l i = (get_or l i (record { kind = Free })).kind
 
 abbrev pub holding_at : List Entry → ℕ → Holding
-holding_at l i = (get_or l i (record { holding = Unused })).holding
+holding_at l i = (get_or l i (record { holding = None })).holding
 
 abbrev pub message_at : List Slot → ℕ → Message
 message_at l i = (get_or l i (record { message = Empty })).message
@@ -37,7 +35,7 @@ module _ (𝓜 : Machine) (s : Tables) where
 
   -- the entry e of worker w
   unfoldable pub entry : ℕ → ℕ → Holding
-  entry w e = cond (ltb w 𝓜.workers && ltb e 𝓜.entries) (holding_at s.entries (w * 𝓜.entries + e)) Unused
+  entry w e = cond (ltb w 𝓜.workers && ltb e 𝓜.entries) (holding_at s.entries (w * 𝓜.entries + e)) None
 
   -- ---- a cell's end, safe, booked, busy
 

@@ -1,15 +1,23 @@
 -- Tests and changes of one part of the state: what a cell, an entry or a slot holds. Assumes nothing.
-use Rattle.std.specs.Prelude.{ℕ, Bool, true, false, ◌&&◌, eqb}
+use Rattle.std.specs.Prelude.{ℕ, Bool, true, false, ◌&&◌, eqb, Option, None, Some}
 use Rattle.tables.specs.declared.Status.{Status}
 use Rattle.tables.specs.declared.Status.TheVariants.{Idle, Reading, Known}
 use Rattle.tables.specs.declared.Kind.{Kind}
 use Rattle.tables.specs.declared.Kind.TheVariants.{Free, Var, Val, Ref, Ex}
-use Rattle.tables.specs.declared.Holding.{Holding}
-use Rattle.tables.specs.declared.Holding.TheVariants.{Unused, Live}
+use Rattle.tables.specs.declared.Live.{Live}
 use Rattle.tables.specs.declared.Message.{Message}
 use Rattle.tables.specs.declared.Message.TheVariants.{Empty, Reference, Release, Read, Answer, Ask, Supply}
-use Rattle.tables.specs.declared.Place.{Place}
-use Rattle.tables.specs.declared.Place.TheVariants.{Nowhere, At}
+use Rattle.tables.specs.declared.EntryName.{EntryName}
+
+-- ---- places
+
+-- where a walk along references stands: at the entry of this name, or nowhere
+abbrev pub Place : Type 0
+Place = Option EntryName
+
+-- the entry e of worker o
+abbrev pub place : ℕ → ℕ → Place
+place o e = Some (record { owner = o; entry = e })
 
 -- ---- cells
 
@@ -99,7 +107,7 @@ ex_names o e k = on_ex false (λ owner entry w st a. eqb owner o && eqb entry e)
 
 -- the entry that an EX names
 abbrev pub named_by : Kind → Place
-named_by k = on_ex Nowhere (λ o e w st a. At o e) k
+named_by k = on_ex None (λ o e w st a. place o e) k
 
 -- the weight of an EX
 abbrev pub ex_weight : Kind → ℕ
@@ -115,37 +123,45 @@ end_from k c = on_ref c (λ d. d) k
 
 -- the entry e of worker o is at this place
 abbrev pub is_at : ℕ → ℕ → Place → Bool
-is_at o e Nowhere = false
-is_at o e (At owner entry) = eqb owner o && eqb entry e
+is_at o e None = false
+is_at o e (Some p) = eqb p.owner o && eqb p.entry e
 
 -- ---- entries
 
+-- what an entry holds: it is live, or free
+abbrev pub Holding : Type 0
+Holding = Option Live
+
+-- live, with this cell, weight and taint
+abbrev pub live : ℕ → ℕ → Bool → Holding
+live c w t = Some (record { cell = c; weight = w; tainted = t })
+
 abbrev pub is_unused : Holding → Bool
-is_unused Unused = true
-is_unused (Live c w t) = false
+is_unused None = true
+is_unused (Some x) = false
 
 abbrev pub is_live : Holding → Bool
-is_live Unused = false
-is_live (Live c w t) = true
+is_live None = false
+is_live (Some x) = true
 
 abbrev pub is_tainted : Holding → Bool
-is_tainted Unused = false
-is_tainted (Live c w t) = t
+is_tainted None = false
+is_tainted (Some x) = x.tainted
 
 -- a live entry that names the cell c
 abbrev pub entry_names : ℕ → Holding → Bool
-entry_names c Unused = false
-entry_names c (Live d w t) = eqb d c
+entry_names c None = false
+entry_names c (Some x) = eqb x.cell c
 
 -- the cell that an entry names, 0 where it is free
 abbrev pub cell_of : Holding → ℕ
-cell_of Unused = 0
-cell_of (Live c w t) = c
+cell_of None = 0
+cell_of (Some x) = x.cell
 
 -- the weight of an entry, 0 where it is free
 abbrev pub entry_weight : Holding → ℕ
-entry_weight Unused = 0
-entry_weight (Live c w t) = w
+entry_weight None = 0
+entry_weight (Some x) = x.weight
 
 -- ---- slots
 

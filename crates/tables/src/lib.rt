@@ -11,15 +11,15 @@ pub const ENTRIES: u8 = 16;
 pub const SLOTS: u8 = 64;
 
 // The same to reckon places with: cells and entries of one worker, and those of all.
-pub const CELL_ROW: usize = 32;
+pub const CELL_ROW: usize = CELLS as usize;
 
-pub const ENTRY_ROW: usize = 16;
+pub const ENTRY_ROW: usize = ENTRIES as usize;
 
-pub const ALL_CELLS: usize = 256;
+pub const ALL_CELLS: usize = WORKERS as usize * CELL_ROW;
 
-pub const ALL_ENTRIES: usize = 128;
+pub const ALL_ENTRIES: usize = WORKERS as usize * ENTRY_ROW;
 
-pub const ALL_SLOTS: usize = 64;
+pub const ALL_SLOTS: usize = SLOTS as usize;
 
 // The weight of a Reference by location, and the most that a Supply brings; and the ceiling of an entry's weight.
 pub const FIRST_WEIGHT: u32 = 1024;
@@ -64,16 +64,16 @@ pub struct Cell {
     pub kind: Kind,
 }
 
-// What an export entry holds.
-#[derive(Clone, Copy)]
-pub enum Holding {
-    Unused,
-    Live {
-        cell: u8,
-        weight: u32,
-        tainted: bool,
-    },
+// A live export entry: the cell that it names, its weight, and whether it is tainted.
+#[derive(Clone, Copy, PartialEq, Eq)]
+pub struct Live {
+    pub cell: u8,
+    pub weight: u32,
+    pub tainted: bool,
 }
+
+// What an export entry holds: it is live, or free.
+pub type Holding = Option<Live>;
 
 #[derive(Clone, Copy)]
 pub struct Entry {
@@ -139,11 +139,11 @@ pub struct State {
     pub slots: SlotTable,
 }
 
-// Where a walk along references stands: at an entry of an owner's, or nowhere.
-#[derive(Clone, Copy)]
-pub enum Place {
-    Nowhere,
-    At { owner: u8, entry: u8 },
+// What an EX or a message names: an entry of an owner's.
+#[derive(Clone, Copy, PartialEq, Eq)]
+pub struct EntryName {
+    pub owner: u8,
+    pub entry: u8,
 }
 
 // The calls, with their arguments.
@@ -163,26 +163,26 @@ pub enum Call {
     Bound,
 }
 
-// Why a call or a report is refused, in the order of the refusal numbers.
-#[derive(Clone, Copy)]
+// Why a call or a report is refused, each with its refusal number.
+#[derive(Clone, Copy, PartialEq, Eq)]
 pub enum Refusal {
-    WorkerCount,
-    NotSound,
-    NoWorker,
-    ToItself,
-    NoCell,
-    WrongKind,
-    Busy,
-    Unsafe,
-    LastWeight,
-    OverCeiling,
-    NoEntry,
-    NoRoom,
-    NoSlot,
-    NoMessage,
-    NotReady,
-    NoCaller,
-    TooManyCharges,
+    WorkerCount = 1,
+    NotSound = 2,
+    NoWorker = 3,
+    ToItself = 4,
+    NoCell = 5,
+    WrongKind = 6,
+    Busy = 7,
+    Unsafe = 8,
+    LastWeight = 9,
+    OverCeiling = 10,
+    NoEntry = 11,
+    NoRoom = 12,
+    NoSlot = 13,
+    NoMessage = 14,
+    NotReady = 15,
+    NoCaller = 16,
+    TooManyCharges = 17,
 }
 
 // A call's answer: done with a value, sent with its slot, or without a value.

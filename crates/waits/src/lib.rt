@@ -3,12 +3,11 @@
 
 ghost use Rattle.std.specs.Prelude.{◌≡◌};
 ghost use Rattle.tables.specs.Machine.{eight, tables};
-ghost use Rattle.states.specs.Sound.{reads_for, asks_for, each_cell, each_message, cell_awaited, message_has_its, point4};
-ghost use Rattle.waits.specs.Waits.{named_entry, message_seen};
+ghost use Rattle.states.specs.Sound.{reads_for, asks_for, reads_of, asks_of, each_cell, each_message, cell_awaited, message_has_its, point4};
+ghost use Rattle.chains.specs.Hops.{Followed};
 
 use chains::Hops;
-use numbers::{bit_of, both, either};
-use tables::{ALL_CELLS, ALL_SLOTS, CELL_ROW, Holding, Kind, Message, Place, State};
+use tables::{CELL_ROW, EntryName, Kind, Message, State, Status};
 
 // ---- each reading EX has exactly one Read or Answer, each asking EX exactly one Ask or Supply
 
@@ -17,13 +16,10 @@ fn reads_for(w: u8, c: u8, m: Message) -> bool
     ensures { result ≡ reads_for w c m }
 {
     match m {
-        Message::Empty => false,
-        Message::Reference { .. } => false,
-        Message::Release { .. } => false,
-        Message::Read { reader, cell, .. } => both(reader == w, cell == c),
-        Message::Answer { reader, cell, .. } => both(reader == w, cell == c),
-        Message::Ask { .. } => false,
-        Message::Supply { .. } => false,
+        Message::Read { reader, cell, .. } | Message::Answer { reader, cell, .. } => {
+            reader == w && cell == c
+        }
+        _ => false,
     }
 }
 
@@ -32,129 +28,108 @@ fn asks_for(w: u8, c: u8, m: Message) -> bool
     ensures { result ≡ asks_for w c m }
 {
     match m {
-        Message::Empty => false,
-        Message::Reference { .. } => false,
-        Message::Release { .. } => false,
-        Message::Read { .. } => false,
-        Message::Answer { .. } => false,
-        Message::Ask { asker, cell, .. } => both(asker == w, cell == c),
-        Message::Supply { asker, cell, .. } => both(asker == w, cell == c),
+        Message::Ask { asker, cell, .. } | Message::Supply { asker, cell, .. } => {
+            asker == w && cell == c
+        }
+        _ => false,
     }
 }
 
-// Every cell that waits has its message, and no second one.
-fn cells_awaited(s: State) -> bool
-    ensures { result ≡ each_cell eight (tables s) (cell_awaited eight (tables s)) }
+fn reads_of(s: &State, w: u8, c: u8) -> usize
+    ensures { result ≡ reads_of eight (tables s.now) w c }
 {
-    let mut good = true;
-    for i in 0..ALL_CELLS {
-        let x = s.cells[i];
-        let k = x.kind;
-        let reading = parts::is_reading(k);
-        let asking = parts::is_asking(k);
-        if !either(reading, asking) {
-            continue;
+    s.slots
+        .iter()
+        .filter(|x| reads_for(w, c, x.message))
+        .count()
+}
+
+fn asks_of(s: &State, w: u8, c: u8) -> usize
+    ensures { result ≡ asks_of eight (tables s.now) w c }
+{
+    s.slots.iter().filter(|x| asks_for(w, c, x.message)).count()
+}
+
+// The cell c of worker w, which holds k, has the message that it waits for, and no second one.
+fn cell_awaited(s: &State, w: u8, c: u8, k: Kind) -> bool
+    ensures { result ≡ cell_awaited eight (tables s.now) w c k }
+{
+    match k {
+        Kind::Ex { status, asking, .. } => {
+            let reading = matches!(status, Status::Reading);
+            (!reading || reads_of(s, w, c) == 1) && (!asking || asks_of(s, w, c) == 1)
         }
-        let w = (i / CELL_ROW) as u8;
-        let c = (i % CELL_ROW) as u8;
-        let mut reads: u8 = 0;
-        let mut asks: u8 = 0;
-        for j in 0..ALL_SLOTS {
-            let y = s.slots[j];
-            let m = y.message;
-            reads += bit_of(reads_for(w, c, m));
-            asks += bit_of(asks_for(w, c, m));
-        }
-        let has = both(either(!reading, reads == 1), either(!asking, asks == 1));
-        good = both(good, has);
+        _ => true,
     }
-    good
+}
+
+fn cells_awaited(s: &State) -> bool
+    ensures { result ≡ each_cell eight (tables s.now) (cell_awaited eight (tables s.now)) }
+{
+    s.cells.iter().enumerate().all(|(i, x)| {
+        cell_awaited(s, (i / CELL_ROW) as u8, (i % CELL_ROW) as u8, x.kind)
+    })
 }
 
 // ---- what messages name
 
-// The entry that the message names.
-fn named_entry(m: Message) -> Place
-    ensures { result ≡ named_entry m }
+// The message m has its EX and names what it may.
+fn message_has_its(s: &State, hops: &Hops, m: Message) -> bool
+    ensures { Followed eight (tables s.now) hops.now 128 → result ≡ message_has_its eight (tables s.now) m }
 {
-    match m {
-        Message::Empty => Place::Nowhere,
-        Message::Reference { owner, entry, .. } => Place::At {
-            owner: owner,
-            entry: entry,
-        },
-        Message::Release { owner, entry, .. } => Place::At {
-            owner: owner,
-            entry: entry,
-        },
-        Message::Read { owner, entry, .. } => Place::At {
-            owner: owner,
-            entry: entry,
-        },
-        Message::Answer { .. } => Place::Nowhere,
-        Message::Ask { owner, entry, .. } => Place::At {
-            owner: owner,
-            entry: entry,
-        },
-        Message::Supply { .. } => Place::Nowhere,
-    }
-}
-
-// The message m has its EX, whose cell holds k, and names what it may: an entry that holds x.
-fn message_has_its(t: Hops, m: Message, k: Kind, x: Holding) -> bool
-    ensures { result ≡ message_seen eight t.hops k x m }
-{
-    let live = parts::is_live(x);
+    let is_live = |o, e| parts::is_live(lookups::entry_at(&s.entries, o, e));
     match m {
         Message::Empty => true,
-        Message::Reference { weight, .. } => both(live, 1 <= weight),
-        Message::Release { weight, .. } => both(live, 1 <= weight),
-        Message::Read { owner, entry, .. } => {
-            let met = chains::reached(t, parts::named_by(k), owner, entry);
-            both(both(parts::is_reading(k), live), met)
+        Message::Reference {
+            owner,
+            entry,
+            weight,
+            ..
         }
-        Message::Answer { .. } => parts::is_reading(k),
-        Message::Ask { owner, entry, .. } => {
-            both(
-                both(parts::is_asking(k), live),
-                parts::ex_names(owner, entry, k),
-            )
+        | Message::Release {
+            owner,
+            entry,
+            weight,
+        } => is_live(owner, entry) && 1 <= weight,
+        Message::Read {
+            reader,
+            cell,
+            owner,
+            entry,
+        } => {
+            let k = lookups::cell_at(&s.cells, reader, cell);
+            parts::is_reading(k)
+                && is_live(owner, entry)
+                && chains::reached(hops, parts::named_by(k), EntryName { owner, entry })
         }
-        Message::Supply { .. } => parts::is_asking(k),
+        Message::Answer { reader, cell, .. } => {
+            parts::is_reading(lookups::cell_at(&s.cells, reader, cell))
+        }
+        Message::Ask {
+            asker,
+            cell,
+            owner,
+            entry,
+        } => {
+            let k = lookups::cell_at(&s.cells, asker, cell);
+            parts::is_asking(k) && is_live(owner, entry) && parts::ex_names(owner, entry, k)
+        }
+        Message::Supply { asker, cell, .. } => {
+            parts::is_asking(lookups::cell_at(&s.cells, asker, cell))
+        }
     }
 }
 
-// Every message has its EX and names what it may.
-fn messages_have_theirs(s: State) -> bool
-    ensures { result ≡ each_message eight (tables s) (message_has_its eight (tables s)) }
+fn messages_have_theirs(s: &State) -> bool
+    ensures { result ≡ each_message eight (tables s.now) (message_has_its eight (tables s.now)) }
 {
-    let t = chains::hops_of(s);
-    let mut good = true;
-    for i in 0..ALL_SLOTS {
-        let x = s.slots[i];
-        let m = x.message;
-        if parts::is_empty(m) {
-            continue;
-        }
-        let w = places::waiter_of(m);
-        let c = places::cell_for(m);
-        let j = places::cell_index(w, c);
-        let y = s.cells[j];
-        let there = y.kind;
-        let at = named_entry(m);
-        let h = places::place_index(at);
-        let z = s.entries[h];
-        let holding = z.holding;
-        let k = places::cell_seen(w, c, there);
-        let entry = places::place_seen(at, holding);
-        good = both(good, message_has_its(t, m, k, entry));
-    }
-    good
+    let hops = chains::hops_of(s);
+    s.slots.iter().all(|x| message_has_its(s, &hops, x.message))
 }
 
 #[tactic(auto, unfolding(states::specs::Sound::point4))]
-pub fn point_4(s: State) -> bool
-    ensures { result ≡ point4 eight (tables s) }
+pub fn point_4(s: &State) -> bool
+    ensures { result ≡ point4 eight (tables s.now) }
 {
-    both(cells_awaited(s), messages_have_theirs(s))
+    cells_awaited(s) && messages_have_theirs(s)
 }

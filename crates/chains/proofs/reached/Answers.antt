@@ -1,17 +1,26 @@
--- `chains::reached` meets its contract: the walk of 128 steps along the hops. Assumes nothing.
+-- `chains::reached` meets its contract: the walk of 128 steps along the hops, and so that of document 01. Assumes nothing.
+use Rattle.std.proofs.Common.{◌≡◌, ◌∙◌, rules}
+use Rattle.tables.specs.Machine.{eight}
+use Rattle.tables.specs.Parts.{is_at}
 use Rattle.loops.specs.Walking.{walk_start, walk_met, walk_on, walk_end}
+use Rattle.chains.specs.Hops.{reached_by}
 use Rattle.chains.proofs.reached.Goals as goal
 
 pub loop-i-init : goal.loop-i-init
 loop-i-init c = walk_start _ _ _ _
 
-pub returns-then-is_at : goal.returns-then-is_at
-returns-then-is_at c = walk_met c.loop-i.invariant c.loop-i-test.true c.is_at.ensures c.if-is_at.true
+pub returns-then-eq : goal.returns-then-eq
+returns-then-eq c =
+    let is : c.eq.result ≡ is_at c.args.to.owner c.args.to.entry c.loop-i.at = search rules in
+    let found = walk_met c.loop-i.invariant c.loop-i-test.true is c.if-eq.true in
+    record { by_table = found; by_state = λ t f. found ∙ reached_by eight t c.args.hops.now f c.args.from c.args.to.owner c.args.to.entry }
 
 pub loop-i-preserved : goal.loop-i-preserved
 loop-i-preserved c =
-    walk_on c.loop-i.invariant c.loop-i-test.true c.is_at.ensures c.if-is_at.false
-    (rw c.place_index-j.ensures.value at c.next_seen-at.ensures)
+    let is : c.eq.result ≡ is_at c.args.to.owner c.args.to.entry c.loop-i.at = search rules in
+    walk_on c.loop-i.invariant c.loop-i-test.true is c.if-eq.false c.step-at.ensures
 
 pub returns : goal.returns
-returns c = walk_end c.loop-i.invariant c.loop-i-test.false
+returns c =
+    let ended = walk_end c.loop-i.invariant c.loop-i-test.false in
+    record { by_table = ended; by_state = λ t f. ended ∙ reached_by eight t c.args.hops.now f c.args.from c.args.to.owner c.args.to.entry }

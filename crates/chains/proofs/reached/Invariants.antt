@@ -7,4 +7,4 @@ use Rattle.chains.specs.Hops.{step_by}
 use Rattle.chains.proofs.reached.Given as goal
 
 abbrev pub invariant-loop-i : goal.invariant-loop-i
-invariant-loop-i l = Walking (is_at l.o l.e) (step_by eight l.t.hops) 128 l.i l.at (walk_meets (is_at l.o l.e) (step_by eight l.t.hops) 128 l.initial.at)
+invariant-loop-i l = Walking (is_at l.to.owner l.to.entry) (step_by eight l.hops) 128 l._i l.at (walk_meets (is_at l.to.owner l.to.entry) (step_by eight l.hops) 128 l.initial.at)

@@ -1,20 +1,12 @@
--- `ranges::messages_in_range` meets its contract: a walk over all slots. Assumes nothing.
-use Rattle.std.proofs.Common.{◌≡◌, rules}
-use Rattle.std.specs.Prelude.{length}
-use Rattle.tables.specs.Machine.{eight}
+-- `ranges::messages_in_range` meets its contract: a chain over all slots. Assumes nothing.
+use Rattle.std.proofs.Common.{rules}
+use Rattle.std.proofs.lemmas.Iterator.{YieldsList-from_slice}
+use Rattle.tables.specs.Machine.{eight, tables}
 use Rattle.states.specs.Sound.{message_in_range}
-use Rattle.loops.specs.Passing.{pass_start, pass_step, pass_each}
+use Rattle.loops.specs.Every.{all_each}
 use Rattle.ranges.proofs.messages_in_range.Goals as goal
 
-pub loop-i-init : goal.loop-i-init
-loop-i-init c s h = pass_start _ _
-
-pub loop-i-preserved : goal.loop-i-preserved
-loop-i-preserved c s h =
-    pass_step (c.loop-i.invariant s h) c.loop-i-test.true (c.message_in_range.ensures s h) c.both-good.ensures
-
 pub returns : goal.returns
-returns c s h e =
-    let l : length c.args.slots ≡ 64 = search rules in
-    let passed = c.loop-i.invariant s h in
-    rw e (pass_each (λ j x. message_in_range eight s x.message) c.args.slots _ passed l c.loop-i-test.false)
+returns c =
+    let s = tables c.args.s.now in
+    all_each _ (λ x. message_in_range eight s x.message) s.slots c.all.ensures.ran (YieldsList-from_slice s.slots cc) (λ x b f k. search rules)

@@ -1,2 +1,0 @@
--- The law that belongs to no one function.
-pub mod Others

@@ -1,2 +1,0 @@
--- Point 5 by what a loop has read.
-pub mod Held
