@@ -13,8 +13,7 @@ ghost use Rattle.rules.specs.Refusals.{read_end};
 
 use changes::{add_weights, with_cell_and_message, with_entry_and_message};
 use tables::{
-    CEILING, CELLS, Change, Effect, FIRST_WEIGHT, Holding, Kind, Live, Message, Outcome, State,
-    Status,
+    CEILING, CELLS, Change, Effect, FIRST_WEIGHT, Holding, Kind, Message, Outcome, State, Status,
 };
 
 // ---- what becomes of an entry and of a cell
@@ -23,13 +22,12 @@ use tables::{
 fn taken_off(w: u32, x: Holding) -> Holding
     ensures { result ≡ taken_off w x }
 {
-    match x {
-        Some(live) if w < live.weight => Some(Live {
-            weight: live.weight - w,
-            ..live
-        }),
-        _ => None,
+    let mut live = x?;
+    if live.weight <= w {
+        return None;
     }
+    live.weight -= w;
+    Some(live)
 }
 
 // The weight joins the EX, or the cell becomes such an EX, idle.
@@ -85,20 +83,18 @@ fn supply_from(weight: u32) -> u32
 fn grown(x: Holding) -> Holding
     ensures { result ≡ grown (min 1024 (1048576 - entry_weight x)) x }
 {
-    x.map(|live| Live {
-        weight: live.weight + supply_from(live.weight),
-        ..live
-    })
+    let mut live = x?;
+    live.weight += supply_from(live.weight);
+    Some(live)
 }
 
 // The end of the cell that a live entry of worker o names.
 fn entry_end(s: &State, o: u8, x: Holding) -> Kind
     ensures { result ≡ entry_end eight (tables s.now) o x }
 {
-    match x {
-        Some(live) => lookups::see(&s.cells, o, live.cell).ending,
-        None => Kind::Free,
-    }
+    x.map_or(Kind::Free, |live| {
+        lookups::see(&s.cells, o, live.cell).ending
+    })
 }
 
 // The end that a Read comes to; nothing for any other message.

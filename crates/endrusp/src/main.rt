@@ -6,30 +6,19 @@ ghost use Rattle.endrusp.specs.Counts.{Counts};
 
 use std::io;
 use std::io::{ErrorKind, Read};
-use text::Ran;
 
-// Room for one byte more than is run.
-fn text_room() -> [u8; 65537]
-    ensures { 65537 ≡ length result }
+// Room for N bytes; a function, so that no proof unfolds the whole array.
+fn room<const N: usize>() -> [u8; N]
+    ensures { N ≡ length result }
 {
-    [0; 65537]
-}
-
-// Room for eleven bytes for each of those, and eleven more.
-fn answer_room() -> [u8; 720918]
-    ensures { 720918 ≡ length result }
-{
-    [0; 720918]
+    [0; N]
 }
 
 // How many bytes of answers stand at the front of out.
 fn answers(input: &[u8], out: &mut [u8]) -> usize
     ensures { Counts result out.new }
 {
-    let Ran::Wrote(k) = text::run(input, out) else {
-        return 0;
-    };
-    k
+    text::run(input, out).unwrap_or(0)
 }
 
 // Reads until the buffer is full or the input ends, and answers how many bytes it put at the front of it.
@@ -52,9 +41,10 @@ fn read_full<R: Read>(reader: &mut R, buffer: &mut [u8]) -> io::Result<usize>
 }
 
 fn main(rt: HostRuntime) -> io::Result<()> {
-    let mut input = text_room();
+    // Room for one byte more than is run, and for eleven bytes for each of those and eleven more.
+    let mut input = room::<65537>();
+    let mut out = room::<720918>();
     let n = read_full(&mut rt.stdin(), &mut input)?;
-    let mut out = answer_room();
     let k = answers(&input[..n], &mut out);
     rt.write_all(&out[..k])
 }

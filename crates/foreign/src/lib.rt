@@ -5,8 +5,6 @@ ghost use Rattle.std.specs.Prelude.{◌≡◌};
 ghost use Rattle.text.specs.Room.{written};
 ghost use Rattle.foreign.specs.Answer.{bytes_written};
 
-use text::Ran;
-
 // Runs input from the closed state into out, and says how many bytes of answers stand at its front; or the largest number, with out as it was,
 // where out has not 11 bytes for each byte of input and 11 more.
 #[unsafe(no_mangle)]
@@ -14,8 +12,5 @@ pub extern "C" fn endrusp_run(input: &[u8], out: &mut [u8]) -> usize
     ensures value { result ≡ bytes_written input.now out.old }
     ensures out_after { out.new ≡ written input.now out.old }
 {
-    let Ran::Wrote(n) = text::run(input, out) else {
-        return 18446744073709551615;
-    };
-    n
+    text::run(input, out).unwrap_or(usize::MAX)
 }

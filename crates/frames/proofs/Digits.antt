@@ -6,26 +6,26 @@ use native.Mathlib.Omega.{arith}
 use native.Mathlib.Numerals.{add-one}
 use native.Mathlib.Nat.{pow-suc, pow-le-pow_right, lt_of_lt_of_le}
 use borrow.Author.Rules.{rules}
-use borrow.Author.Tests.{lt-ltb, le-ltb, le-leb, lt-leb}
+use borrow.Author.Tests.{le-leb, lt-leb}
 use lib.ListN.{length, get_or, drop, drop_of_length-le}
 use lib.Seq.{drop-cons}
 use Rattle.frames.specs.Hex.{digit_in, number_after, number_in}
-use Rattle.frames.specs.declared.Number.TheVariants.{Of, NoDigits}
+use Rattle.std.specs.Prelude.{Some, None}
 
 module _ (b : ℕ) where
-  pub digit_below : b < 48 → 16 ≡ digit_in b
+  pub digit_below : b < 48 → None ≡ digit_in b
   unfolding digit_in
   digit_below h = let k : b < 97 = omega arith in simp (lt-leb 48 b h, lt-leb 97 b k)
 
-  pub digit_number : 48 ≤ b → b < 58 → b - 48 ≡ digit_in b
+  pub digit_number : 48 ≤ b → b < 58 → Some (b - 48) ≡ digit_in b
   unfolding digit_in
   digit_number h k = let l : b ≤ 57 = omega arith in simp (le-leb 48 b h, le-leb b 57 l)
 
-  pub digit_between : 58 ≤ b → b < 97 → 16 ≡ digit_in b
+  pub digit_between : 58 ≤ b → b < 97 → None ≡ digit_in b
   unfolding digit_in
   digit_between h k = let l : 48 ≤ b = omega arith in simp (le-leb 48 b l, lt-leb b 57 h, lt-leb 97 b k)
 
-  pub digit_letter : 97 ≤ b → b < 103 → b - 97 + 10 ≡ digit_in b
+  pub digit_letter : 97 ≤ b → b < 103 → Some (b - 97 + 10) ≡ digit_in b
   unfolding digit_in
   digit_letter h k =
       let l : 48 ≤ b = omega arith in
@@ -33,13 +33,18 @@ module _ (b : ℕ) where
       let n : b ≤ 102 = omega arith in
       simp (le-leb 48 b l, lt-leb b 57 m, le-leb 97 b h, le-leb b 102 n)
 
-  pub digit_above : 103 ≤ b → 16 ≡ digit_in b
+  pub digit_above : 103 ≤ b → None ≡ digit_in b
   unfolding digit_in
   digit_above h =
       let l : 48 ≤ b = omega arith in
       let m : 57 < b = omega arith in
       let n : 97 ≤ b = omega arith in
       simp (le-leb 48 b l, lt-leb b 57 m, le-leb 97 b n, lt-leb b 102 h)
+
+-- the value of a digit is below 16
+digit_small : (b : ℕ) {d : ℕ} → Some d ≡ digit_in b → d < 16
+unfolding digit_in
+digit_small b e = grind arith
 
 pub ruleset digits = (rules, digit_below, digit_number, digit_between, digit_letter, digit_above)
 
@@ -66,22 +71,18 @@ module _ {s : List ℕ} {v i : ℕ} (p : Parsing s v i) (h : i < length s) where
   pub parse_shifts : length s ≤ 16 → v * 16 < 2 ^ 64
   parse_shifts k = let l = next_small {d = 0} (omega arith) in digits_fit i (v * 16) (omega arith) (omega arith)
 
-  pub parse_adds : {d : ℕ} → length s ≤ 16 → d < 16 → v * 16 + d < 2 ^ 64
-  parse_adds {d} k l = digits_fit i (v * 16 + d) (omega arith) (next_small l)
+  pub parse_adds : {d : ℕ} → length s ≤ 16 → Some d ≡ digit_in (get_or s i 0) → v * 16 + d < 2 ^ 64
+  parse_adds {d} k e = digits_fit i (v * 16 + d) (omega arith) (next_small (digit_small _ e))
 
-  pub parse_none : {d : ℕ} → d ≡ digit_in (get_or s i 0) → 16 ≤ d → NoDigits ≡ number_in s
+  pub parse_none : None ≡ digit_in (get_or s i 0) → None ≡ number_in s
   unfolding number_after
-  parse_none e k =
-      let l : 16 ≤ digit_in (get_or s i 0) = omega arith in
-      sym (p.rest ∙ rw (drop-cons s i 0 h) (simp (le-ltb _ _ l)))
+  parse_none e = sym (p.rest ∙ rw (drop-cons s i 0 h, ← e))
 
-  pub parse_more : {d : ℕ} → d ≡ digit_in (get_or s i 0) → d < 16 → Parsing s (v * 16 + d) (i + 1)
+  pub parse_more : {d : ℕ} → Some d ≡ digit_in (get_or s i 0) → Parsing s (v * 16 + d) (i + 1)
   unfolding number_after
-  parse_more e k =
-      let l : digit_in (get_or s i 0) < 16 = omega arith in
-      record { small = next_small k; rest = p.rest ∙ rw (add-one, e, drop-cons s i 0 h) (simp (lt-ltb _ _ l)) }
+  parse_more e = record { small = next_small (digit_small _ e); rest = p.rest ∙ rw (add-one, drop-cons s i 0 h, ← e) }
 
-pub parse_end : {s : List ℕ} {v i : ℕ} → Parsing s v i → length s ≤ i → Of v ≡ number_in s
+pub parse_end : {s : List ℕ} {v i : ℕ} → Parsing s v i → length s ≤ i → Some v ≡ number_in s
 unfolding number_after
 parse_end {s} p h = sym (p.rest ∙ rw (drop_of_length-le s h))
 

@@ -11,26 +11,26 @@ use Rattle.frames.specs.Hex.{digit_in, number_after}
 use Rattle.frames.specs.Frames.{by_call, decode}
 use Rattle.frames.specs.Lines.{lines_of}
 use Rattle.frames.specs.AnswerLines.{line_of, answer_line, no_frame_line, too_long_line}
-use Rattle.frames.specs.declared.Decoded.{Decoded}
-use Rattle.frames.specs.declared.Decoded.TheVariants.{NoFrame, Frame}
+use Rattle.std.specs.Prelude.{Option, Some, None}
+use Rattle.tables.specs.declared.Call.{Call}
 
 -- the bytes of a text
 bytes : String → List ℕ
 bytes none = []
 bytes (c then s) = code c ∷ bytes s
 
-says : String → Decoded
+says : String → Option Call
 says s = decode (bytes s)
 
 -- lines of the run, a number with its high byte first, and a caller
-frames : (says "0102000000000000" ≡ Frame (Start 2)) × (says "0500000100000000" ≡ Frame (Export 0 0 1)) × (says "0300000000000007" ≡ Frame (Set 0 0 7))
-    × (says "0301020001020304" ≡ Frame (Set 1 2 0x01020304)) × (says "02010000000000ff" ≡ Frame (New 1 255))
+frames : (says "0102000000000000" ≡ Some (Start 2)) × (says "0500000100000000" ≡ Some (Export 0 0 1)) × (says "0300000000000007" ≡ Some (Set 0 0 7))
+    × (says "0301020001020304" ≡ Some (Set 1 2 0x01020304)) × (says "02010000000000ff" ≡ Some (New 1 255))
 unfolding says bytes decode number_after digit_in by_call
 frames = (refl, refl, refl, refl, refl)
 
 -- bytes that are not used, a number that is not used, an upper-case digit, an unknown call, a carriage return, an empty line
-no_frames : (says "0102010000000000" ≡ NoFrame) × (says "0201010000000000" ≡ NoFrame) × (says "0c00000000000001" ≡ NoFrame)
-    × (says "0C00000000000000" ≡ NoFrame) × (says "0d00000000000000" ≡ NoFrame) × (says "0c00000000000000\r" ≡ NoFrame) × (says "" ≡ NoFrame)
+no_frames : (says "0102010000000000" ≡ None) × (says "0201010000000000" ≡ None) × (says "0c00000000000001" ≡ None)
+    × (says "0C00000000000000" ≡ None) × (says "0d00000000000000" ≡ None) × (says "0c00000000000000\r" ≡ None) × (says "" ≡ None)
 unfolding says bytes decode number_after digit_in by_call
 no_frames = (refl, refl, refl, refl, refl, refl, refl)
 

@@ -1,15 +1,20 @@
--- The line at a place of a text and the lines after it, and the loop of line_end. Assumes nothing.
+-- The line at a place of a text and the lines after it, and where a line ends. Assumes nothing.
 use Prim.Native.Nat.{ℕ, suc, ◌+◌, ◌≤◌, ◌<◌}
 use mathlib.Core.Path.{◌≡◌, refl, ap, ◌∙◌}
 use mathlib.Core.Bool.{Bool, true, false}
 use mathlib.Core.List.{List, [], ◌∷◌}
 use native.Mathlib.Omega.{arith}
-use native.Mathlib.Numerals.{add-one}
 use borrow.Author.Rules.{rules}
-use borrow.Author.Tests.{eq-eqb, ne_eqb}
-use lib.Dec.{eqb}
-use lib.ListN.{length, get_or, take, drop, length-drop, drop_of_length-le}
-use lib.Seq.{drop-cons, drop-drop, length-take-le}
+use borrow.Author.Tests.{lt-ltb, le-ltb}
+use lib.Dec.{eqb, ltb}
+use lib.ListN.{length, take, drop, length-drop, drop_of_length-le}
+use lib.Seq.{drop-drop, length-take-le}
+use Rattle.std.specs.Prelude.{Some, None, cond, unwrap_or}
+use Rattle.std.specs.List.{position, position_or_len}
+use Rattle.std.proofs.Common.{inl, inr}
+use Rattle.std.proofs.lemmas.Bool.{cases_lt}
+use Rattle.std.proofs.lemmas.List.Recursion.{is_position_or_len}
+use Rattle.std.proofs.lemmas.List.Sums.{prefix_len-le-length}
 use Rattle.frames.specs.Lines.{to_newline, lines_of, in_front, line_end}
 
 -- the first line of a text that is not empty stands before its newline, and the others after it
@@ -58,33 +63,19 @@ line_within s at h = omega (arith, to_newline_le (drop at s), length-drop at s)
 pub first_length : (l : List ℕ) → length (take (to_newline l) l) ≡ to_newline l
 first_length l = length-take-le (to_newline l) l (to_newline_le l)
 
--- The line that ends at e has no newline before i.
-pub record Seeking (s : List ℕ) (e i : ℕ) : Type 0 where
-  pub rest : e ≡ i + to_newline (drop i s)
+-- what the library's search for a newline finds
+place_or_length : (k n : ℕ) → k ≤ n → unwrap_or (cond (ltb k n) (Some k) None) n ≡ k
+place_or_length k n h = elim (cases_lt k n) [ inl l ↦ rw (lt-ltb k n l) | inr g ↦ rw (le-ltb k n g) (omega arith) ]
 
-pub seek_start : (s : List ℕ) (at : ℕ) → Seeking s (line_end s at) at
-seek_start s at = record { rest = refl }
+pub as_position : (l : List ℕ) → unwrap_or (position (λ x. eqb x 10) l) (length l) ≡ to_newline l
+unfolding to_newline
+as_position l =
+    let e : to_newline l ≡ position_or_len (λ x. eqb x 10) l = is_position_or_len to_newline (λ x. eqb x 10) refl (λ x xs. ap (λ n. cond (eqb x 10) 0 n) (omega arith)) l in
+    rw e (place_or_length _ _ (prefix_len-le-length _ l))
 
-module _ {s : List ℕ} {e i : ℕ} (p : Seeking s e i) where
-  -- a newline stands at i
-  pub seek_here : i < length s → get_or s i 0 ≡ 10 → i ≡ e
-  unfolding to_newline
-  seek_here h k =
-      let l : to_newline (drop i s) ≡ 0 = rw (drop-cons s i 0 h) (simp (eq-eqb _ _ k)) in
-      omega (arith, p.rest)
+-- no line starts past the end
+pub ends_past : (s : List ℕ) (at : ℕ) → length s < at → at ≡ line_end s at
+unfolding to_newline
+ends_past s at h = let e : drop at s ≡ [] = drop_of_length-le s (omega arith) in rw e (omega arith)
 
-  -- another byte stands at i
-  pub seek_later : i < length s → (get_or s i 0 ≡ 10 → ⊥) → Seeking s e (i + 1)
-  unfolding to_newline
-  seek_later h k =
-      let l : to_newline (drop i s) ≡ suc (to_newline (drop (suc i) s)) = rw (drop-cons s i 0 h) (simp (ne_eqb _ _ k)) in
-      record { rest = rw add-one (omega (arith, p.rest)) }
-
-  -- nothing stands at i
-  pub seek_end : length s ≤ i → i ≡ e
-  unfolding to_newline
-  seek_end h =
-      let l : to_newline (drop i s) ≡ 0 = rw (drop_of_length-le s h) in
-      omega (arith, p.rest)
-
-pub ruleset seeks = (rules, seek_start, seek_here, seek_later, seek_end)
+pub ruleset ends = (rules, ends_past)

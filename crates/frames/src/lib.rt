@@ -2,48 +2,24 @@
 // of an answer.
 #![tactic(auto)]
 
-ghost use Rattle.std.specs.Prelude.{◌≡◌, ◌%◌, ◌≤◌, length};
-ghost use Rattle.rules.specs.Answers.{number_of, code_of, value_of};
+ghost use Rattle.std.specs.Prelude.{◌≡◌, ◌%◌, ◌≤◌, length, position, nat_eq};
+ghost use Rattle.rules.specs.Answers.{code_of, value_of};
 ghost use Rattle.frames.specs.Hex.{digit_in, digit_out, number_in};
 ghost use Rattle.frames.specs.Frames.{fields_of, unused_are_zero, uses_only, frame_of, decode};
 ghost use Rattle.frames.specs.Lines.{line_end};
 ghost use Rattle.frames.specs.AnswerLines.{line_of, answer_line, no_frame_line, too_long_line};
 
-use tables::{Call, Outcome, Refusal};
+use tables::{Call, Outcome};
 
-// What a line says: a call with its arguments, or it is no frame.
-#[derive(Drop)]
-pub enum Decoded {
-    NoFrame,
-    Frame(Call),
-}
-
-// What up to sixteen bytes say: a number, where all are digits.
-#[derive(Drop)]
-enum Number {
-    NoDigits,
-    Of(u64),
-}
-
-// The parts of a frame: the call, three bytes and the number.
-#[derive(Drop)]
-struct Fields {
-    call: u8,
-    a: u8,
-    b: u8,
-    c: u8,
-    n: u32,
-}
-
-// The value of a digit; 16 where the byte is none.
+// The value of a byte that is a digit.
 #[tactic(auto, using(crate::proofs::Digits::digits))]
-fn digit_in(b: u8) -> u8
+fn digit_in(b: u8) -> Option<u8>
     ensures { result ≡ digit_in b }
 {
     match b {
-        b'0'..=b'9' => b - b'0',
-        b'a'..=b'f' => b - b'a' + 10,
-        _ => 16,
+        b'0'..=b'9' => Some(b - b'0'),
+        b'a'..=b'f' => Some(b - b'a' + 10),
+        _ => None,
     }
 }
 
@@ -57,137 +33,109 @@ fn low_digit(n: u32) -> u8
 
 // The number that up to sixteen digits say.
 #[tactic(auto, using(crate::proofs::Digits::parses))]
-fn parse(s: &[u8]) -> Number
+fn parse(s: &[u8]) -> Option<u64>
     requires { length s.now ≤ 16 }
     ensures { result ≡ number_in s.now }
 {
     let mut v: u64 = 0;
-    let mut i = 0;
-    while i < s.len() {
-        let d = digit_in(s[i]);
-        if 16 <= d {
-            return Number::NoDigits;
-        }
-        v = v * 16 + d as u64;
-        i += 1;
+    for b in s {
+        let d = digit_in(*b)?;
+        v = v * 16 + u64::from(d);
     }
-    Number::Of(v)
+    Some(v)
+}
+
+// The parts of a frame: the call, three bytes and the number.
+#[derive(Clone, Copy)]
+struct Fields {
+    call: u8,
+    a: u8,
+    b: u8,
+    c: u8,
+    n: u32,
 }
 
 // The parts of a number of 64 bits, high byte first.
-fn fields_of(v: u64) -> Fields
-    ensures { result ≡ fields_of v }
-{
-    Fields {
-        call: (v / 0x0100_0000_0000_0000) as u8,
-        a: (v / 0x0001_0000_0000_0000 % 256) as u8,
-        b: (v / 0x0100_0000_0000 % 256) as u8,
-        c: (v / 0x0001_0000_0000 % 256) as u8,
-        n: (v % 0x0001_0000_0000) as u32,
+impl From<u64> for Fields {
+    ghost from_gives = { λ v f. f ≡ fields_of v };
+
+    fn from(v: u64) -> Fields {
+        let [call, a, b, c, n3, n2, n1, n0] = v.to_be_bytes();
+        let n = u32::from_be_bytes([n3, n2, n1, n0]);
+        Fields { call, a, b, c, n }
     }
 }
 
-// Whether a frame is 0 but for the first so many of its bytes, and for its number or not.
-fn unused_are_zero(f: Fields, bytes: u8, number: bool) -> bool
-    ensures { result ≡ unused_are_zero f bytes number }
-{
-    let a = numbers::either(0 < bytes, f.a == 0);
-    let b = numbers::either(1 < bytes, f.b == 0);
-    let c = numbers::either(2 < bytes, f.c == 0);
-    let n = numbers::either(number, f.n == 0);
-    numbers::both(numbers::both(a, b), numbers::both(c, n))
-}
+impl Fields {
+    // Whether a frame is 0 but for the first so many of its bytes, and for its number or not.
+    fn unused_are_zero(self, bytes: u8, number: bool) -> bool
+        ensures { result ≡ unused_are_zero self bytes number }
+    {
+        let a = 0 < bytes || self.a == 0;
+        let b = 1 < bytes || self.b == 0;
+        let c = 2 < bytes || self.c == 0;
+        let n = number || self.n == 0;
+        a && b && c && n
+    }
 
-// The call, where what it does not use of the frame is 0; no frame where it is not.
-fn uses_only(f: Fields, bytes: u8, number: bool, call: Call) -> Decoded
-    ensures { result ≡ uses_only f bytes number call }
-{
-    if unused_are_zero(f, bytes, number) {
-        Decoded::Frame(call)
-    } else {
-        Decoded::NoFrame
+    // The call, where what it does not use of the frame is 0.
+    fn uses_only(self, bytes: u8, number: bool, call: Call) -> Option<Call>
+        ensures { result ≡ uses_only self bytes number call }
+    {
+        self.unused_are_zero(bytes, number).then_some(call)
+    }
+
+    // The frame by its call: how many of the bytes the call uses, whether the number, and what its arguments are.
+    #[tactic(auto, unfolding(crate::specs::Frames::by_call))]
+    fn frame(self) -> Option<Call>
+        ensures { result ≡ frame_of self }
+    {
+        let Fields { call, a, b, c, n } = self;
+        match call {
+            1 => self.uses_only(1, false, Call::Start { p: a }),
+            2 => self.uses_only(1, true, Call::New { w: a, caller: n }),
+            3 => self.uses_only(2, true, Call::Set { w: a, c: b, n }),
+            4 => self.uses_only(3, false, Call::Bind { w: a, c: b, x: c }),
+            5 => self.uses_only(3, false, Call::Export { w: a, c: b, to: c }),
+            6 => self.uses_only(3, false, Call::Indirect { w: a, c: b, to: c }),
+            7 => self.uses_only(3, false, Call::Transfer { w: a, c: b, to: c }),
+            8 => self.uses_only(2, false, Call::Drop { w: a, c: b }),
+            9 => self.uses_only(2, false, Call::ReadCell { w: a, c: b }),
+            10 => self.uses_only(2, false, Call::AskWeight { w: a, c: b }),
+            11 => self.uses_only(1, false, Call::Deliver { slot: a }),
+            12 => self.uses_only(0, false, Call::Bound),
+            _ => None,
+        }
     }
 }
 
-// The frame by its call: how many of the bytes the call uses, whether the number, and what its arguments are.
-#[tactic(auto, unfolding(crate::specs::Frames::by_call))]
-fn frame_of(f: Fields) -> Decoded
-    ensures { result ≡ frame_of f }
-{
-    let call = f.call;
-    let a = f.a;
-    let b = f.b;
-    let c = f.c;
-    let n = f.n;
-    match call {
-        1 => uses_only(f, 1, false, Call::Start { p: a }),
-        2 => uses_only(f, 1, true, Call::New { w: a, caller: n }),
-        3 => uses_only(f, 2, true, Call::Set { w: a, c: b, n }),
-        4 => uses_only(f, 3, false, Call::Bind { w: a, c: b, x: c }),
-        5 => uses_only(f, 3, false, Call::Export { w: a, c: b, to: c }),
-        6 => uses_only(f, 3, false, Call::Indirect { w: a, c: b, to: c }),
-        7 => uses_only(f, 3, false, Call::Transfer { w: a, c: b, to: c }),
-        8 => uses_only(f, 2, false, Call::Drop { w: a, c: b }),
-        9 => uses_only(f, 2, false, Call::ReadCell { w: a, c: b }),
-        10 => uses_only(f, 2, false, Call::AskWeight { w: a, c: b }),
-        11 => uses_only(f, 1, false, Call::Deliver { slot: a }),
-        12 => uses_only(f, 0, false, Call::Bound),
-        _ => Decoded::NoFrame,
-    }
-}
-
-// What a line says, without its newline.
+// The call that a line says, without its newline, where it is a frame.
 #[tactic(auto, unfolding(crate::specs::Frames::decode))]
-pub fn decode(line: &[u8]) -> Decoded
+pub fn decode(line: &[u8]) -> Option<Call>
     ensures { result ≡ decode line.now }
 {
     if line.len() != 16 {
-        return Decoded::NoFrame;
+        return None;
     }
-    let Number::Of(v) = parse(line) else {
-        return Decoded::NoFrame;
-    };
-    frame_of(fields_of(v))
+    Fields::from(parse(line)?).frame()
+}
+
+// Where the first newline of a text stands.
+fn newline(text: &[u8]) -> Option<usize>
+    ensures { result ≡ position (λ x. nat_eq x 10) text.now }
+{
+    text.iter().position(|b| *b == b'\n')
 }
 
 // Where the line that starts at a place ends: its newline's place, or the end of the text.
-#[tactic(auto, using(crate::proofs::Lines::seeks))]
+#[tactic(auto, using(crate::proofs::Lines::ends))]
 pub fn line_end(text: &[u8], at: usize) -> usize
     ensures { result ≡ line_end text.now at }
 {
-    let mut i = at;
-    while i < text.len() {
-        if text[i] == b'\n' {
-            return i;
-        }
-        i += 1;
-    }
-    i
-}
-
-// The number of a refusal.
-fn refusal_number(why: Refusal) -> u8
-    ensures { result ≡ number_of why }
-{
-    match why {
-        Refusal::WorkerCount => 1,
-        Refusal::NotSound => 2,
-        Refusal::NoWorker => 3,
-        Refusal::ToItself => 4,
-        Refusal::NoCell => 5,
-        Refusal::WrongKind => 6,
-        Refusal::Busy => 7,
-        Refusal::Unsafe => 8,
-        Refusal::LastWeight => 9,
-        Refusal::OverCeiling => 10,
-        Refusal::NoEntry => 11,
-        Refusal::NoRoom => 12,
-        Refusal::NoSlot => 13,
-        Refusal::NoMessage => 14,
-        Refusal::NotReady => 15,
-        Refusal::NoCaller => 16,
-        Refusal::TooManyCharges => 17,
-    }
+    let Some(rest) = text.get(at..) else {
+        return at;
+    };
+    at + newline(rest).unwrap_or(rest.len())
 }
 
 // The code of an answer.
@@ -199,7 +147,7 @@ pub fn code_of(answer: Outcome) -> u8
         Outcome::Sent(_) => 0x40,
         Outcome::Waiting => 0x41,
         Outcome::Unbound => 0x42,
-        Outcome::Refused(why) => refusal_number(why),
+        Outcome::Refused(why) => why as u8,
     }
 }
 
@@ -210,9 +158,7 @@ pub fn value_of(answer: Outcome) -> u32
     match answer {
         Outcome::Done(v) => v,
         Outcome::Sent(slot) => slot as u32,
-        Outcome::Waiting => 0,
-        Outcome::Unbound => 0,
-        Outcome::Refused(_) => 0,
+        Outcome::Waiting | Outcome::Unbound | Outcome::Refused(_) => 0,
     }
 }
 

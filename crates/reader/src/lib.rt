@@ -1,42 +1,33 @@
-// The reader that holds the text and its place, and moves on as it reads. Its methods leave the work to `read_at`, which takes a
-// slice and a number.
+// The reader that holds the text and its place, and moves on as it reads: an iterator over what the lines say. It leaves the work to `read_at`,
+// which takes a slice and a number.
 #![tactic(auto)]
 
 ghost use Rattle.std.specs.Prelude.{◌≡◌};
-ghost use Rattle.reader.specs.Read.{read_at, passage, moved_on};
+ghost use Rattle.std.specs.Iterator.{item_count};
+ghost use Rattle.reader.specs.Read.{read_at, found, moved_on, lines_left};
 
-use frames::Decoded;
+use tables::Call;
 
-// What a reader finds: the next line, as what it says; or the text has ended.
-#[derive(Drop)]
-pub enum Found {
-    End,
-    Line(Decoded),
-}
-
-// What stands at a place of a text, and the place after it, which at the end is the same.
+// A line at a place of a text: the call that it says, where it is a frame, and the place after it.
 #[derive(Drop)]
 struct Passage {
-    found: Found,
+    frame: Option<Call>,
     next: usize,
 }
 
-// The work: what stands at a place of a slice, and the place after it.
-fn read_at(text: &[u8], at: usize) -> Passage
+// The work: the line at a place of a slice, or none at its end.
+fn read_at(text: &[u8], at: usize) -> Option<Passage>
     ensures { result ≡ read_at text.now at }
 {
     if text.len() <= at {
-        return Passage {
-            found: Found::End,
-            next: at,
-        };
+        return None;
     }
     let end = frames::line_end(text, at);
     let frame = frames::decode(&text[at..end]);
-    Passage {
-        found: Found::Line(frame),
+    Some(Passage {
+        frame,
         next: end + 1,
-    }
+    })
 }
 
 // A text and a place in it.
@@ -53,13 +44,19 @@ impl<'a> Reader<'a> {
     {
         Reader { text, at: 0 }
     }
+}
 
-    // What stands at its place, behind which it then stands.
-    pub fn read(&mut self) -> Found
-        ensures { (result ≡ (passage self.old).found) × (self.new ≡ moved_on self.old) }
-    {
-        let here = read_at(self.text, self.at);
+// What the line at its place says; behind that it then stands.
+impl<'a> Iterator for Reader<'a> {
+    type Item = Option<Call>;
+
+    ghost next_gives = { λ s r t. (r ≡ found s) × (t ≡ moved_on s) };
+
+    ghost remaining = { item_count lines_left };
+
+    fn next(&mut self) -> Option<Option<Call>> {
+        let here = read_at(self.text, self.at)?;
         self.at = here.next;
-        here.found
+        Some(here.frame)
     }
 }

@@ -2,174 +2,56 @@
 // code, each caller whose total is not 0 with that total, how many charges were placed and how many not, and the unplaced total.
 #![tactic(auto)]
 
-ghost use Rattle.std.specs.Prelude.{◌≡◌, ◌≤◌, take};
-ghost use Rattle.tables.specs.Machine.{eight, tables};
-ghost use Rattle.reports.specs.Report.{report};
+ghost use Rattle.std.specs.Prelude.{◌≤◌};
 
 use cases_parts::{idle, live, tainted};
 use changes::all_free;
-use frames::Decoded;
 use lookups::{put_cell, put_entry};
-use reports::{CALLERS, Charge, CostReport};
+use reports::Charge;
 use std::io;
 use tables::{Kind, State};
 
-// ---- numbers
-
-// How far a number is from 0.
-fn size(n: i64) -> u64 {
-    if n < 0 {
-        let m = -1 - n;
-        return m as u64 + 1;
-    }
-    n as u64
-}
-
-// What the first decimal digit of a number counts.
-fn first_unit(n: u64) -> u64 {
-    let mut unit: u64 = 1;
-    while unit <= n / 10 {
-        unit = unit * 10;
-    }
-    unit
-}
-
-fn write_number(rt: &impl Print, before: &[u8], n: u64) -> io::Result<()> {
-    rt.write_all(before)?;
-    let mut unit = first_unit(n);
-    while 0 < unit {
-        let digit = [b'0' + ((n / unit) % 10) as u8];
-        rt.write_all(&digit)?;
-        unit = unit / 10;
-    }
-    Ok(())
-}
-
-fn write_signed(rt: &impl Print, before: &[u8], n: i64) -> io::Result<()> {
-    rt.write_all(before)?;
-    if n < 0 {
-        rt.write_all(b"-")?;
-    }
-    write_number(rt, b"", size(n))
-}
-
 // ---- reports
 
-// Of the first n charges, which it lends.
-fn report_of(s: State, charges: [Charge; 65536], n: usize) -> CostReport
-    requires { n ≤ 65536 }
-    ensures { result ≡ report eight (tables s) (take n charges) }
-{
-    reports::report(s, &charges[..n])
-}
-
-fn show_total(rt: &impl Print, who: u64, total: i64) -> io::Result<()> {
-    if total == 0 {
-        return Ok(());
-    }
-    write_number(rt, b"; ", who)?;
-    write_signed(rt, b": ", total)
-}
-
-fn show_totals(rt: &impl Print, totals: [i64; CALLERS]) -> io::Result<()> {
-    for i in 0..CALLERS {
-        let t = totals[i];
-        show_total(rt, i as u64, t)?;
-    }
-    Ok(())
-}
-
-fn show(
-    rt: &impl Print,
-    name: &[u8],
-    s: State,
-    charges: [Charge; 65536],
-    n: usize,
-) -> io::Result<()>
-    requires { n ≤ 65536 }
-{
-    let r = report_of(s, charges, n);
-    let outcome = r.outcome;
-    let line = frames::answer_line(outcome);
-    rt.write_all(name)?;
-    rt.write_all(&line[0..2])?;
-    let totals = r.totals;
-    show_totals(rt, totals)?;
-    write_number(rt, b"; placed ", r.placed as u64)?;
-    write_number(rt, b", unplaced ", r.missed as u64)?;
-    let unplaced = r.unplaced;
-    write_signed(rt, b": ", unplaced)?;
-    rt.write_all(b"\n")
-}
-
-// The first n of five charges, by the worker and cell of each, and the amounts.
-fn few(
-    rt: &impl Print,
-    name: &[u8],
-    s: State,
-    places: [u8; 10],
-    amounts: [i32; 5],
-    n: usize,
-) -> io::Result<()>
-    requires { n ≤ 65536 }
-{
-    let mut list = [Charge {
-        worker: places[0],
-        cell: places[1],
-        amount: amounts[0],
-    }; 65536];
-    list[1] = Charge {
-        worker: places[2],
-        cell: places[3],
-        amount: amounts[1],
-    };
-    list[2] = Charge {
-        worker: places[4],
-        cell: places[5],
-        amount: amounts[2],
-    };
-    list[3] = Charge {
-        worker: places[6],
-        cell: places[7],
-        amount: amounts[3],
-    };
-    list[4] = Charge {
-        worker: places[8],
-        cell: places[9],
-        amount: amounts[4],
-    };
-    show(rt, name, s, list, n)
-}
-
-// The same charge n times.
-fn many(
-    rt: &impl Print,
-    name: &[u8],
-    s: State,
-    worker: u8,
-    cell: u8,
-    amount: i32,
-    n: usize,
-) -> io::Result<()>
-    requires { n ≤ 65536 }
-{
-    let c = Charge {
+fn charge(worker: u8, cell: u8, amount: i32) -> Charge {
+    Charge {
         worker,
         cell,
         amount,
-    };
-    show(rt, name, s, [c; 65536], n)
+    }
+}
+
+fn show(rt: &impl Print, name: &str, s: State, charges: &[Charge]) -> io::Result<()> {
+    let report = reports::report(s, charges);
+    let code = frames::code_of(report.outcome);
+    print!(rt; "{name}: {code:02x}")?;
+    for (who, total) in report.totals.iter().enumerate() {
+        if *total != 0 {
+            print!(rt; "; {who}: {total}")?;
+        }
+    }
+    let placed = report.placed;
+    let missed = report.missed;
+    let unplaced = report.unplaced;
+    println!(rt; "; placed {placed}, unplaced {missed}: {unplaced}")
+}
+
+// The same charge n times.
+fn many(rt: &impl Print, name: &str, s: State, each: Charge, n: usize) -> io::Result<()>
+    requires { n ≤ 65536 }
+{
+    let list = [each; 65536];
+    show(rt, name, s, &list[..n])
 }
 
 // ---- states
 
 fn after(rt: &impl Print, s: State, frame: &[u8]) -> io::Result<State> {
-    let Decoded::Frame(q) = frames::decode(frame) else {
-        rt.write_all(b"no frame\n")?;
+    let Some(q) = frames::decode(frame) else {
+        println!(rt; "no frame")?;
         return Ok(s);
     };
-    let reply = calls::step(s, q);
-    Ok(reply.state)
+    Ok(calls::step(s, q).state)
 }
 
 // Two workers: a VAR of caller 7 at worker 0, an EX of it at worker 1, and beside that a VAR of caller 9.
@@ -234,65 +116,105 @@ fn unsound() -> State {
 // README's three charges; the same in another order, one of them, and none.
 fn three_charges(rt: &impl Print) -> io::Result<()> {
     let s = shared(rt)?;
-    let places = [0, 0, 1, 0, 1, 1, 0, 0, 0, 0];
-    let amounts = [250, 40, -15, 0, 0];
-    few(rt, b"three charges: ", s, places, amounts, 3)?;
-    let back = [1, 1, 1, 0, 0, 0, 0, 0, 0, 0];
-    few(rt, b"in another order: ", s, back, [-15, 40, 250, 0, 0], 3)?;
-    few(rt, b"one charge: ", s, places, amounts, 1)?;
-    few(rt, b"no charge: ", s, places, amounts, 0)
+    let list = [charge(0, 0, 250), charge(1, 0, 40), charge(1, 1, -15)];
+    show(rt, "three charges", s, &list)?;
+    let back = [charge(1, 1, -15), charge(1, 0, 40), charge(0, 0, 250)];
+    show(rt, "in another order", s, &back)?;
+    show(rt, "one charge", s, &list[..1])?;
+    show(rt, "no charge", s, &[])
 }
 
 // "signed amounts widened and added, corrections negative, exact at zero and at both range ends"
 fn at_the_ends(rt: &impl Print) -> io::Result<()> {
     let s = four_callers(rt)?;
-    let each = [0, 0, 0, 1, 0, 2, 0, 3, 0, 9];
-    let one = [0, 3, 0, 3, 0, 3, 0, 3, 0, 3];
-    let all = [0, -1, -2147483648, 2147483647, -1];
-    few(rt, b"each to its own: ", s, each, all, 5)?;
-    few(rt, b"all to one: ", s, one, all, 5)?;
-    let corrected = [2147483647, -2147483647, 0, 0, 0];
-    few(rt, b"corrected: ", s, one, corrected, 2)
+    let each = [
+        charge(0, 0, 0),
+        charge(0, 1, -1),
+        charge(0, 2, -2147483648),
+        charge(0, 3, 2147483647),
+        charge(0, 9, -1),
+    ];
+    show(rt, "each to its own", s, &each)?;
+    let one = [
+        charge(0, 3, 0),
+        charge(0, 3, -1),
+        charge(0, 3, -2147483648),
+        charge(0, 3, 2147483647),
+        charge(0, 3, -1),
+    ];
+    show(rt, "all to one", s, &one)?;
+    let corrected = [charge(0, 3, 2147483647), charge(0, 3, -2147483647)];
+    show(rt, "corrected", s, &corrected)
 }
 
 // "At most 65,535 charges."
 fn long_lists(rt: &impl Print) -> io::Result<()> {
     let s = four_callers(rt)?;
-    many(rt, b"65535, the lowest: ", s, 0, 3, -2147483648, 65535)?;
-    many(rt, b"65536: ", s, 0, 3, -2147483648, 65536)?;
-    many(rt, b"65535, the highest: ", s, 0, 0, 2147483647, 65535)?;
-    many(rt, b"65535, a free cell: ", s, 0, 4, -2147483648, 65535)
+    let lowest = charge(0, 3, -2147483648);
+    many(rt, "65535, the lowest", s, lowest, 65535)?;
+    many(rt, "65536", s, lowest, 65536)?;
+    many(rt, "65535, the highest", s, charge(0, 0, 2147483647), 65535)?;
+    many(
+        rt,
+        "65535, a free cell",
+        s,
+        charge(0, 4, -2147483648),
+        65535,
+    )
 }
 
 // "following ends and references from its cell to a VAR or VAL": REF, EX, REF, EX, which is two references, as many as there are live entries;
 // and through an EX that is known.
 fn chains(rt: &impl Print) -> io::Result<()> {
-    let places = [2, 1, 2, 0, 1, 1, 1, 0, 0, 0];
-    let amounts = [1, 10, 100, 1000, 10000];
-    few(rt, b"a chain: ", chained(rt)?, places, amounts, 5)?;
-    few(rt, b"through a known EX: ", known(rt)?, places, amounts, 5)?;
-    let round = [0, 0, 1, 0, 1, 1, 0, 0, 0, 0];
-    few(rt, b"a loop: ", looped(), round, amounts, 3)
+    let list = [
+        charge(2, 1, 1),
+        charge(2, 0, 10),
+        charge(1, 1, 100),
+        charge(1, 0, 1000),
+        charge(0, 0, 10000),
+    ];
+    show(rt, "a chain", chained(rt)?, &list)?;
+    show(rt, "through a known EX", known(rt)?, &list)?;
+    let round = [charge(0, 0, 1), charge(1, 0, 10), charge(1, 1, 100)];
+    show(rt, "a loop", looped(), &round)
 }
 
 // "A charge whose worker or cell number is out of range, or whose cell is free, is unplaced"; the last of five is placed, except on the closed state.
 fn unplaced(rt: &impl Print) -> io::Result<()> {
     let s = shared(rt)?;
-    let amounts = [1, 10, 100, 1000, 10000];
-    let free = [0, 1, 0, 31, 1, 2, 1, 31, 0, 0];
-    let workers = [2, 0, 7, 0, 8, 0, 255, 0, 0, 0];
-    let cells = [0, 32, 1, 32, 0, 255, 255, 255, 0, 0];
-    few(rt, b"free cells: ", s, free, amounts, 5)?;
-    few(rt, b"no such worker: ", s, workers, amounts, 5)?;
-    few(rt, b"no such cell: ", s, cells, amounts, 5)?;
-    few(rt, b"the closed state: ", all_free(0), free, amounts, 5)
+    let free = [
+        charge(0, 1, 1),
+        charge(0, 31, 10),
+        charge(1, 2, 100),
+        charge(1, 31, 1000),
+        charge(0, 0, 10000),
+    ];
+    show(rt, "free cells", s, &free)?;
+    let workers = [
+        charge(2, 0, 1),
+        charge(7, 0, 10),
+        charge(8, 0, 100),
+        charge(255, 0, 1000),
+        charge(0, 0, 10000),
+    ];
+    show(rt, "no such worker", s, &workers)?;
+    let cells = [
+        charge(0, 32, 1),
+        charge(1, 32, 10),
+        charge(0, 255, 100),
+        charge(255, 255, 1000),
+        charge(0, 0, 10000),
+    ];
+    show(rt, "no such cell", s, &cells)?;
+    show(rt, "the closed state", all_free(0), &free)
 }
 
 // "Refusals: 2; then 17 for a longer list; both leave all totals and both numbers of charges 0."
 fn refused(rt: &impl Print) -> io::Result<()> {
-    many(rt, b"not sound: ", unsound(), 0, 0, 1, 5)?;
-    many(rt, b"not sound, 65536: ", unsound(), 0, 0, 1, 65536)?;
-    many(rt, b"not sound, none: ", unsound(), 0, 0, 1, 0)
+    let each = charge(0, 0, 1);
+    many(rt, "not sound", unsound(), each, 5)?;
+    many(rt, "not sound, 65536", unsound(), each, 65536)?;
+    many(rt, "not sound, none", unsound(), each, 0)
 }
 
 fn main(rt: HostRuntime) -> io::Result<()> {

@@ -122,29 +122,27 @@ fn with_cells_below(c: u8) -> State {
 
 // ---- the cases
 
-fn show(rt: &impl Print, name: &[u8], s: State) -> io::Result<()> {
-    rt.write_all(name)?;
-    let n = sound::first_broken(s);
-    let line = [b' ', b'0' + n % 10, b'\n'];
-    rt.write_all(&line)
+fn show(rt: &impl Print, name: &str, s: State) -> io::Result<()> {
+    let n = sound::first_broken(&s).map_or(0, |point| point as u8);
+    println!(rt; "{name} {n}")
 }
 
 fn sound_states(rt: &impl Print) -> io::Result<()> {
-    show(rt, b"closed", all_free(0))?;
-    show(rt, b"one-worker", all_free(1))?;
-    show(rt, b"busy", busy(4))?;
-    show(rt, b"eight-workers", busy(8))
+    show(rt, "closed", all_free(0))?;
+    show(rt, "one-worker", all_free(1))?;
+    show(rt, "busy", busy(4))?;
+    show(rt, "eight-workers", busy(8))
 }
 
 fn sound_weights(rt: &impl Print) -> io::Result<()> {
     show(
         rt,
-        b"supply-of-0",
+        "supply-of-0",
         put_entry(with_message(4, supply(2, 1, 0)), 0, 1, live(1, 280)),
     )?;
     show(
         rt,
-        b"weight-at-the-ceiling",
+        "weight-at-the-ceiling",
         put_entry(
             with_cell(3, 0, reading(2, 0, 1048576, false)),
             2,
@@ -152,225 +150,209 @@ fn sound_weights(rt: &impl Print) -> io::Result<()> {
             live(0, 1048576),
         ),
     )?;
-    show(rt, b"booked-equals-free", with_cells_below(31))
+    show(rt, "booked-equals-free", with_cells_below(31))
 }
 
 fn sound_references(rt: &impl Print) -> io::Result<()> {
     show(
         rt,
-        b"read-of-its-own-entry",
+        "read-of-its-own-entry",
         with_message(1, read(3, 0, 2, 0)),
     )?;
     show(
         rt,
-        b"read-over-one-reference",
+        "read-over-one-reference",
         with_message(1, read(3, 0, 1, 0)),
     )?;
     show(
         rt,
-        b"tainted-names-tainted",
+        "tainted-names-tainted",
         with_exported(Kind::Ref(4), tainted(9, 10)),
     )?;
-    show(rt, b"loop", with_loop())
+    show(rt, "loop", with_loop())
 }
 
 fn workers_beyond_p(rt: &impl Print) -> io::Result<()> {
-    show(rt, b"p-9", busy(9))?;
-    show(rt, b"p-255", all_free(255))?;
+    show(rt, "p-9", busy(9))?;
+    show(rt, "p-255", all_free(255))?;
     show(
         rt,
-        b"closed-with-a-cell",
+        "closed-with-a-cell",
         put_cell(all_free(0), 0, 0, Kind::Var { caller: 0 }),
     )?;
     show(
         rt,
-        b"cell-of-worker-p",
+        "cell-of-worker-p",
         with_cell(4, 0, Kind::Var { caller: 0 }),
     )?;
     show(
         rt,
-        b"cell-of-worker-7",
+        "cell-of-worker-7",
         with_cell(7, 31, Kind::Val { n: 0, caller: 0 }),
     )?;
-    show(rt, b"entry-of-worker-p", with_entry(4, 0, live(0, 1)))
+    show(rt, "entry-of-worker-p", with_entry(4, 0, live(0, 1)))
 }
 
 fn owners_beyond_p(rt: &impl Print) -> io::Result<()> {
-    show(rt, b"ex-owner-p", with_cell(3, 9, idle(4, 0, 1)))?;
-    show(rt, b"ex-owner-255", with_cell(3, 9, idle(255, 0, 1)))?;
+    show(rt, "ex-owner-p", with_cell(3, 9, idle(4, 0, 1)))?;
+    show(rt, "ex-owner-255", with_cell(3, 9, idle(255, 0, 1)))?;
     show(
         rt,
-        b"reference-owner-p",
+        "reference-owner-p",
         with_message(8, reference(2, 4, 0, 1)),
     )?;
-    show(rt, b"release-owner-p", with_message(8, release(4, 0, 1)))?;
-    show(rt, b"read-owner-p", with_message(0, read(1, 0, 4, 0)))?;
-    show(rt, b"ask-owner-p", with_message(3, ask(1, 2, 4, 1)))
+    show(rt, "release-owner-p", with_message(8, release(4, 0, 1)))?;
+    show(rt, "read-owner-p", with_message(0, read(1, 0, 4, 0)))?;
+    show(rt, "ask-owner-p", with_message(3, ask(1, 2, 4, 1)))
 }
 
 fn receivers_beyond_p(rt: &impl Print) -> io::Result<()> {
-    show(
-        rt,
-        b"reference-to-p",
-        with_message(8, reference(4, 0, 0, 1)),
-    )?;
-    show(rt, b"read-reader-p", with_message(8, read(4, 0, 0, 0)))?;
-    show(rt, b"answer-reader-p", with_message(8, answer(4, 0, 0)))?;
-    show(rt, b"ask-asker-p", with_message(8, ask(4, 0, 0, 0)))?;
-    show(rt, b"supply-asker-p", with_message(8, supply(4, 0, 0)))
+    show(rt, "reference-to-p", with_message(8, reference(4, 0, 0, 1)))?;
+    show(rt, "read-reader-p", with_message(8, read(4, 0, 0, 0)))?;
+    show(rt, "answer-reader-p", with_message(8, answer(4, 0, 0)))?;
+    show(rt, "ask-asker-p", with_message(8, ask(4, 0, 0, 0)))?;
+    show(rt, "supply-asker-p", with_message(8, supply(4, 0, 0)))
 }
 
 fn cells_beyond_31(rt: &impl Print) -> io::Result<()> {
-    show(rt, b"ref-cell-32", with_cell(1, 1, Kind::Ref(32)))?;
-    show(rt, b"entry-cell-32", with_new_entry(live(32, 10)))?;
-    show(rt, b"read-cell-32", with_message(8, read(1, 32, 0, 0)))?;
-    show(rt, b"answer-cell-32", with_message(8, answer(3, 32, 5)))?;
-    show(rt, b"ask-cell-32", with_message(8, ask(1, 32, 0, 1)))?;
-    show(rt, b"supply-cell-32", with_message(8, supply(2, 32, 0)))
+    show(rt, "ref-cell-32", with_cell(1, 1, Kind::Ref(32)))?;
+    show(rt, "entry-cell-32", with_new_entry(live(32, 10)))?;
+    show(rt, "read-cell-32", with_message(8, read(1, 32, 0, 0)))?;
+    show(rt, "answer-cell-32", with_message(8, answer(3, 32, 5)))?;
+    show(rt, "ask-cell-32", with_message(8, ask(1, 32, 0, 1)))?;
+    show(rt, "supply-cell-32", with_message(8, supply(2, 32, 0)))
 }
 
 fn entries_beyond_15(rt: &impl Print) -> io::Result<()> {
-    show(rt, b"ex-entry-16", with_cell(3, 9, idle(0, 16, 1)))?;
+    show(rt, "ex-entry-16", with_cell(3, 9, idle(0, 16, 1)))?;
     show(
         rt,
-        b"reference-entry-16",
+        "reference-entry-16",
         with_message(8, reference(2, 0, 16, 1)),
     )?;
-    show(rt, b"release-entry-16", with_message(8, release(0, 16, 1)))?;
-    show(rt, b"read-entry-16", with_message(0, read(1, 0, 0, 16)))?;
-    show(rt, b"ask-entry-16", with_message(3, ask(1, 2, 0, 16)))
+    show(rt, "release-entry-16", with_message(8, release(0, 16, 1)))?;
+    show(rt, "read-entry-16", with_message(0, read(1, 0, 0, 16)))?;
+    show(rt, "ask-entry-16", with_message(3, ask(1, 2, 0, 16)))
 }
 
 fn weights_out_of_range(rt: &impl Print) -> io::Result<()> {
     show(
         rt,
-        b"ex-over-the-ceiling",
+        "ex-over-the-ceiling",
         with_cell(3, 9, idle(0, 2, 1048577)),
     )?;
     show(
         rt,
-        b"entry-over-the-ceiling",
+        "entry-over-the-ceiling",
         with_entry(2, 0, live(0, 1048577)),
     )?;
     show(
         rt,
-        b"reference-over-the-ceiling",
+        "reference-over-the-ceiling",
         with_message(8, reference(2, 0, 0, 1048577)),
     )?;
     show(
         rt,
-        b"release-over-the-ceiling",
+        "release-over-the-ceiling",
         with_message(8, release(0, 1, 1048577)),
     )?;
     show(
         rt,
-        b"supply-over-the-ceiling",
+        "supply-over-the-ceiling",
         with_message(4, supply(2, 1, 1048577)),
     )?;
-    show(rt, b"entry-of-weight-0", with_entry(0, 9, live(9, 0)))
+    show(rt, "entry-of-weight-0", with_entry(0, 9, live(9, 0)))
 }
 
 fn refs_name(rt: &impl Print) -> io::Result<()> {
-    show(rt, b"ref-to-free", with_cell(3, 9, Kind::Ref(31)))?;
-    show(rt, b"ref-to-var", with_cell(1, 9, Kind::Ref(3)))?;
-    show(rt, b"ref-to-val", with_cell(2, 9, Kind::Ref(2)))?;
-    show(rt, b"ref-to-ref", with_cell(1, 9, Kind::Ref(1)))?;
-    show(rt, b"ref-to-itself", with_cell(1, 9, Kind::Ref(9)))
+    show(rt, "ref-to-free", with_cell(3, 9, Kind::Ref(31)))?;
+    show(rt, "ref-to-var", with_cell(1, 9, Kind::Ref(3)))?;
+    show(rt, "ref-to-val", with_cell(2, 9, Kind::Ref(2)))?;
+    show(rt, "ref-to-ref", with_cell(1, 9, Kind::Ref(1)))?;
+    show(rt, "ref-to-itself", with_cell(1, 9, Kind::Ref(9)))
 }
 
 fn exes_name(rt: &impl Print) -> io::Result<()> {
-    show(rt, b"ex-of-a-free-entry", with_cell(3, 9, idle(0, 9, 1)))?;
+    show(rt, "ex-of-a-free-entry", with_cell(3, 9, idle(0, 9, 1)))?;
     show(
         rt,
-        b"ex-of-its-own-worker",
+        "ex-of-its-own-worker",
         put_entry(with_cell(0, 9, idle(0, 0, 10)), 0, 0, live(0, 210)),
     )?;
-    show(rt, b"ex-of-weight-0", with_cell(3, 9, idle(0, 2, 0)))?;
+    show(rt, "ex-of-weight-0", with_cell(3, 9, idle(0, 2, 0)))?;
     show(
         rt,
-        b"two-ex-of-one-entry",
+        "two-ex-of-one-entry",
         put_entry(with_cell(1, 9, idle(0, 0, 10)), 0, 0, live(0, 210)),
     )
 }
 
 fn entries_name(rt: &impl Print) -> io::Result<()> {
-    show(rt, b"entry-of-a-free-cell", with_new_entry(live(9, 10)))?;
-    show(rt, b"two-entries-of-one-cell", with_new_entry(live(0, 10)))?;
+    show(rt, "entry-of-a-free-cell", with_new_entry(live(9, 10)))?;
+    show(rt, "two-entries-of-one-cell", with_new_entry(live(0, 10)))?;
     show(
         rt,
-        b"untainted-owner-not-below",
+        "untainted-owner-not-below",
         with_entry(0, 2, live(2, 80)),
     )?;
     show(
         rt,
-        b"untainted-names-tainted",
+        "untainted-names-tainted",
         with_exported(Kind::Var { caller: 0 }, live(4, 10)),
     )?;
     show(
         rt,
-        b"untainted-ref-to-unsafe",
+        "untainted-ref-to-unsafe",
         with_exported(Kind::Ref(4), live(9, 10)),
     )
 }
 
 fn reading_with_one(rt: &impl Print) -> io::Result<()> {
-    show(rt, b"reading-with-none", with_message(0, Message::Empty))?;
+    show(rt, "reading-with-none", with_message(0, Message::Empty))?;
     show(
         rt,
-        b"reading-with-two-reads",
+        "reading-with-two-reads",
         with_message(8, read(1, 0, 0, 0)),
     )?;
     show(
         rt,
-        b"reading-with-read-and-answer",
+        "reading-with-read-and-answer",
         with_message(8, answer(1, 0, 5)),
     )
 }
 
 fn reads_with_a_reader(rt: &impl Print) -> io::Result<()> {
+    show(rt, "read-for-an-idle-ex", with_message(8, read(2, 0, 1, 0)))?;
+    show(rt, "read-for-a-known-ex", with_message(8, read(1, 2, 0, 1)))?;
+    show(rt, "read-for-a-var", with_message(8, read(1, 3, 0, 0)))?;
     show(
         rt,
-        b"read-for-an-idle-ex",
-        with_message(8, read(2, 0, 1, 0)),
-    )?;
-    show(
-        rt,
-        b"read-for-a-known-ex",
-        with_message(8, read(1, 2, 0, 1)),
-    )?;
-    show(rt, b"read-for-a-var", with_message(8, read(1, 3, 0, 0)))?;
-    show(
-        rt,
-        b"read-for-a-free-cell",
+        "read-for-a-free-cell",
         with_message(8, read(1, 31, 0, 0)),
     )?;
     show(
         rt,
-        b"answer-for-an-idle-ex",
+        "answer-for-an-idle-ex",
         with_message(8, answer(2, 0, 5)),
     )
 }
 
 fn asks_and_supplies(rt: &impl Print) -> io::Result<()> {
-    show(rt, b"asking-with-none", with_message(3, Message::Empty))?;
+    show(rt, "asking-with-none", with_message(3, Message::Empty))?;
+    show(rt, "asking-with-two-asks", with_message(8, ask(1, 2, 0, 1)))?;
     show(
         rt,
-        b"asking-with-two-asks",
-        with_message(8, ask(1, 2, 0, 1)),
-    )?;
-    show(
-        rt,
-        b"asking-with-ask-and-supply",
+        "asking-with-ask-and-supply",
         with_message(8, supply(1, 2, 0)),
     )?;
     show(
         rt,
-        b"ask-for-one-not-asking",
+        "ask-for-one-not-asking",
         with_message(8, ask(2, 0, 1, 0)),
     )?;
     show(
         rt,
-        b"supply-for-one-not-asking",
+        "supply-for-one-not-asking",
         with_message(8, supply(2, 0, 0)),
     )
 }
@@ -378,67 +360,59 @@ fn asks_and_supplies(rt: &impl Print) -> io::Result<()> {
 fn messages_name(rt: &impl Print) -> io::Result<()> {
     show(
         rt,
-        b"reference-of-a-free-entry",
+        "reference-of-a-free-entry",
         with_message(8, reference(2, 0, 9, 5)),
     )?;
     show(
         rt,
-        b"release-of-a-free-entry",
+        "release-of-a-free-entry",
         with_message(8, release(0, 9, 5)),
     )?;
     show(
         rt,
-        b"read-of-a-free-entry",
+        "read-of-a-free-entry",
         with_message(0, read(1, 0, 0, 9)),
     )?;
-    show(rt, b"ask-of-a-free-entry", with_message(3, ask(1, 2, 0, 9)))?;
+    show(rt, "ask-of-a-free-entry", with_message(3, ask(1, 2, 0, 9)))?;
     show(
         rt,
-        b"reference-of-weight-0",
+        "reference-of-weight-0",
         with_message(8, reference(2, 0, 0, 0)),
     )?;
-    show(
-        rt,
-        b"release-of-weight-0",
-        with_message(8, release(0, 1, 0)),
-    )
+    show(rt, "release-of-weight-0", with_message(8, release(0, 1, 0)))
 }
 
 fn reads_reach(rt: &impl Print) -> io::Result<()> {
-    show(
-        rt,
-        b"ask-of-another-entry",
-        with_message(3, ask(1, 2, 0, 0)),
-    )?;
-    show(rt, b"read-not-reached", with_message(0, read(1, 0, 0, 1)))?;
-    show(rt, b"read-the-wrong-way", with_message(0, read(1, 0, 1, 0)))?;
+    show(rt, "ask-of-another-entry", with_message(3, ask(1, 2, 0, 0)))?;
+    show(rt, "read-not-reached", with_message(0, read(1, 0, 0, 1)))?;
+    show(rt, "read-the-wrong-way", with_message(0, read(1, 0, 1, 0)))?;
     let circling = put_cell(with_loop(), 1, 5, reading(0, 3, 20, false));
     show(
         rt,
-        b"read-out-of-a-loop",
+        "read-out-of-a-loop",
         put_message(circling, 8, read(1, 5, 0, 0)),
     )
 }
 
 fn weights_summed(rt: &impl Print) -> io::Result<()> {
-    show(rt, b"entry-one-more", with_entry(0, 0, live(0, 201)))?;
-    show(rt, b"entry-one-less", with_entry(0, 0, live(0, 199)))?;
-    show(rt, b"ex-not-counted", with_entry(0, 0, live(0, 140)))?;
-    show(rt, b"reference-not-counted", with_entry(0, 0, live(0, 160)))
+    show(rt, "entry-one-more", with_entry(0, 0, live(0, 201)))?;
+    show(rt, "entry-one-less", with_entry(0, 0, live(0, 199)))?;
+    show(rt, "ex-not-counted", with_entry(0, 0, live(0, 140)))?;
+    show(rt, "reference-not-counted", with_entry(0, 0, live(0, 160)))
 }
 
 fn weights_in_transit(rt: &impl Print) -> io::Result<()> {
-    show(rt, b"release-not-counted", with_entry(0, 1, live(1, 275)))?;
-    show(rt, b"supply-not-counted", with_entry(0, 1, live(1, 280)))?;
+    show(rt, "release-not-counted", with_entry(0, 1, live(1, 275)))?;
+    show(rt, "supply-not-counted", with_entry(0, 1, live(1, 280)))?;
     show(
         rt,
-        b"supply-counted-elsewhere",
+        "supply-counted-elsewhere",
         put_entry(with_entry(0, 1, live(1, 280)), 0, 0, live(0, 225)),
     )
 }
 
 fn room(rt: &impl Print) -> io::Result<()> {
-    show(rt, b"booked-more-than-free", with_cells_below(32))
+    show(rt, "booked-more-than-free", with_cells_below(32))
 }
 
 fn main(rt: HostRuntime) -> io::Result<()> {

@@ -1,24 +1,30 @@
 -- The run's loop: what is written so far, and what each line adds; and the run of a whole text. Assumes nothing.
-use Prim.Native.Nat.{ℕ, ◌+◌, ◌*◌, ◌≤◌, ◌<◌}
+use Prim.Native.Nat.{ℕ, ◌+◌, ◌-◌, ◌*◌, ◌≤◌, ◌<◌}
 use mathlib.Core.Path.{◌≡◌, refl, sym, ap, ◌∙◌}
 use mathlib.Core.List.{List, [], ◌++◌, append-nil, append_assoc}
 use native.Mathlib.Omega.{arith}
 use borrow.Author.Tests.{lt-ltb, le-ltb}
 use lib.ListN.{length, take, drop, take-append-drop}
+use borrow.Rule.Slice.PartMut.{put_mid, Post-is}
 use lib.Seq.{length-take-le, drop-drop}
+use Rattle.std.specs.Prelude.{Option, Some, None}
+use Rattle.tables.specs.declared.Call.{Call}
 use Rattle.tables.specs.declared.State.{State}
 use Rattle.tables.specs.Machine.{Tables, eight, tables, state}
 use Rattle.rules.specs.Calls.{closed}
 use Rattle.frames.specs.Lines.{lines_of}
 use Rattle.frames.specs.AnswerLines.{too_long_line, with_line}
-use Rattle.frames.specs.declared.Decoded.{Decoded, TheVariants.NoFrame, TheVariants.Frame}
 use Rattle.frames.proofs.Written.{line_length, written_length, written_front, written_rest}
 use Rattle.reader.proofs.Laws.{Got}
 use Rattle.text.specs.Text.{printed, after, answers_from, run_text}
 
-pub printed-length : (s : Tables) (f : Decoded) → length (printed s f) ≡ 11
-printed-length s NoFrame = line_length _ _
-printed-length s (Frame call) = line_length _ _
+pub printed-length : (s : Tables) (f : Option Call) → length (printed s f) ≡ 11
+printed-length s None = line_length _ _
+printed-length s (Some call) = line_length _ _
+
+-- a part of eleven bytes was written over
+pub written_over : (out line : List ℕ) (at : ℕ) (now : List ℕ) → now ≡ line → put_mid at (at + 11 - at) out now ≡ with_line out at line
+written_over out line at now e = rw (Post-is at (at + 11) out (omega arith), e, append_assoc)
 
 -- the n bytes of the answers stand in out, and behind them what stood there
 abbrev pub Filled : List ℕ → List ℕ → List ℕ → ℕ → Type 0
@@ -38,7 +44,7 @@ run_start input out s e =
 
 module _ {input out₀ out : List ℕ} {s : State} {at pos : ℕ} (p : Running input out₀ s at pos out) (room : 11 * length input + 11 ≤ length out₀) where
   -- a line is there: it has room, and the turn
-  module _ {frame : Decoded} {next : ℕ} (g : Got input at frame next) where
+  module _ {frame : Option Call} {next : ℕ} (g : Got input at frame next) where
     pub run_room : pos + 11 ≤ length out
     run_room = omega (arith, p.same, p.bound, g.within)
 

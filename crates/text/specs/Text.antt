@@ -1,23 +1,22 @@
 -- "The text program": what a text prints, line by line, the state going from each to the next. Assumes nothing.
-use Rattle.std.specs.Prelude.{ℕ, cond, List, [], ◌∷◌, ◌++◌, length, ltb}
+use Rattle.std.specs.Prelude.{ℕ, cond, List, [], ◌∷◌, ◌++◌, length, ltb, Option, Some, None}
+use Rattle.tables.specs.declared.Call.{Call}
 use Rattle.tables.specs.Machine.{Tables, eight}
 use Rattle.rules.specs.Calls.{closed}
 use Rattle.rules.specs.Step.{step}
 use Rattle.frames.specs.Frames.{decode}
 use Rattle.frames.specs.Lines.{lines_of}
 use Rattle.frames.specs.AnswerLines.{answer_line, no_frame_line, too_long_line}
-use Rattle.frames.specs.declared.Decoded.{Decoded}
-use Rattle.frames.specs.declared.Decoded.TheVariants.{NoFrame, Frame}
 
 -- what a line prints: its answer, or "ff00000000"
-abbrev pub printed : Tables → Decoded → List ℕ
-printed s NoFrame = no_frame_line
-printed s (Frame call) = answer_line (step eight s call).outcome
+abbrev pub printed : Tables → Option Call → List ℕ
+printed s None = no_frame_line
+printed s (Some call) = answer_line (step eight s call).outcome
 
 -- and the state after it: a line that is no frame "changes nothing"
-abbrev pub after : Tables → Decoded → Tables
-after s NoFrame = s
-after s (Frame call) = (step eight s call).after
+abbrev pub after : Tables → Option Call → Tables
+after s None = s
+after s (Some call) = (step eight s call).after
 
 -- "Output: one line a frame"
 unfoldable pub answers_from : Tables → List (List ℕ) → List ℕ

@@ -1,9 +1,7 @@
--- `frames::parse` meets its contract, by the laws of a number half read.
-use Rattle.frames.proofs.Digits.{parses}
+-- `frames::parse` meets its contract: one digit more was read.
+use Rattle.std.proofs.Common.{sym, ◌∙◌}
+use Rattle.frames.proofs.Digits.{parse_more}
 use Rattle.frames.proofs.parse.Goals as goal
 
-pub returns-then-d-ge16 : goal.returns-then-d-ge16
-returns-then-d-ge16 c = search parses
-
-pub loop-i-preserved : goal.loop-i-preserved
-loop-i-preserved c = search parses
+pub loop-b-preserved : goal.loop-b-preserved
+loop-b-preserved c = rw c.from.ensures (parse_more c.loop-b.invariant c.loop-b-test.true (sym (c.in_ok-d.was) ∙ c.digit_in.ensures))

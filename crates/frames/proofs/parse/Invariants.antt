@@ -1,10 +1,6 @@
--- `frames::parse`: the digits before i say v, and i digits are below 16 to the i.
-use Rattle.std.proofs.Common.{◌-◌, length}
+-- `frames::parse`: the digits before the next say v, and so many digits are below 16 to their number.
 use Rattle.frames.proofs.Digits.{Parsing}
 use Rattle.frames.proofs.parse.Given as goal
 
-abbrev pub invariant-loop-i : goal.invariant-loop-i
-invariant-loop-i l = Parsing l.s l.v l.i
-
-abbrev pub decreases-loop-i : goal.decreases-loop-i
-decreases-loop-i l = length l.s - l.i
+abbrev pub invariant-loop-b : goal.invariant-loop-b
+invariant-loop-b l = Parsing l.s l.v l.b-index
