@@ -5,11 +5,12 @@ ghost use Rattle.std.specs.Prelude.{◌≤◌, min, ◌≡◌};
 ghost use Rattle.tables.specs.declared.Kind.TheVariants.{Var};
 ghost use Rattle.tables.specs.declared.Change.TheVariants.{Nothing, OfCell, OfCellAndSlot, OfEntryAndSlot};
 ghost use Rattle.tables.specs.Machine.{Tables, eight, tables, state};
-ghost use Rattle.tables.specs.Parts.{entry_weight};
+ghost use Rattle.tables.specs.declared.Message.TheVariants.{Empty, Reference};
+ghost use Rattle.tables.specs.Parts.{on_ex, entry_weight};
 ghost use Rattle.tables.specs.Look.{changed};
 ghost use Rattle.rules.specs.Answers.{made, reply};
 ghost use Rattle.rules.specs.Refusals.{entry_to_use, used};
-ghost use Rattle.rules.specs.Calls.{all_free, valued, bound_to, gains, keeps, sends, sends_whole, releases, costs, B};
+ghost use Rattle.rules.specs.Calls.{all_free, valued, bound_to, gains, keeps, releases, costs, B};
 ghost use Rattle.rules.specs.Calls.{by_location, by_reference, export_end, transferred, dropped, read_at, ask_at};
 ghost use Rattle.changes.specs.BelowCeiling.{added};
 
@@ -34,7 +35,8 @@ pub fn all_free(p: u8) -> State
     }
 }
 
-// The sum of two weights. In a sound state no weight passes the ceiling; where one does, the answer is not used.
+// The sum of two weights. In a sound state no weight passes the ceiling; where one does, the answer is not used. Tables made by hand hold any
+// number, so that the bound stands as a condition in the contracts below, and not in a type.
 #[tactic(auto, unfolding(crate::specs::BelowCeiling::added))]
 pub fn add_weights(a: u32, b: u32) -> u32
     ensures { result ≡ added a b }
@@ -239,7 +241,7 @@ pub fn by_location(w: u8, x: u8, to: u8, taint: bool, u: Used, slot: u8) -> Effe
     with_entry_and_message(Outcome::Done(slot as u32), w, e, gained, slot, m)
 }
 
-// What an EX keeps and what it sends: half its weight, rounded down, is sent.
+// What an EX keeps where half its weight, rounded down, is sent.
 fn keeps(mut k: Kind) -> Kind
     ensures { result ≡ keeps eight k }
 {
@@ -249,20 +251,16 @@ fn keeps(mut k: Kind) -> Kind
     k
 }
 
-fn sends(to: u8, k: Kind) -> Message
-    ensures { result ≡ sends eight to k }
+// A Reference of this weight to what the EX k names.
+fn reference(to: u8, k: Kind, weight: u32) -> Message
+    ensures { result ≡ on_ex Empty (λ o e n st a. Reference to o e weight) k }
 {
     match k {
-        Kind::Ex {
-            owner,
-            entry,
-            weight,
-            ..
-        } => Message::Reference {
+        Kind::Ex { owner, entry, .. } => Message::Reference {
             to,
             owner,
             entry,
-            weight: weight / 2,
+            weight,
         },
         _ => Message::Empty,
     }
@@ -273,7 +271,8 @@ fn by_reference(w: u8, x: u8, to: u8, ex: Kind, slot: u8) -> Effect
     ensures { result ≡ by_reference eight w x to ex slot }
 {
     let done = Outcome::Done(slot as u32);
-    with_cell_and_message(done, w, x, keeps(ex), slot, sends(to, ex))
+    let half = reference(to, ex, parts::ex_weight(ex) / 2);
+    with_cell_and_message(done, w, x, keeps(ex), slot, half)
 }
 
 // The end x of an exported cell, which holds k: by reference where it is an EX, and else by location.
@@ -287,32 +286,13 @@ pub fn export_end(w: u8, x: u8, to: u8, k: Kind, u: Used, slot: u8) -> Effect
     }
 }
 
-// A transferred EX sends its whole weight as a Reference.
-fn sends_whole(to: u8, k: Kind) -> Message
-    ensures { result ≡ sends_whole to k }
-{
-    match k {
-        Kind::Ex {
-            owner,
-            entry,
-            weight,
-            ..
-        } => Message::Reference {
-            to,
-            owner,
-            entry,
-            weight,
-        },
-        _ => Message::Empty,
-    }
-}
-
 // The EX of the cell c, freed and sent.
 pub fn transferred(w: u8, c: u8, to: u8, ex: Kind, slot: u8) -> Effect
     ensures { result ≡ transferred w c to ex slot }
 {
     let done = Outcome::Done(slot as u32);
-    with_cell_and_message(done, w, c, Kind::Free, slot, sends_whole(to, ex))
+    let whole = reference(to, ex, parts::ex_weight(ex));
+    with_cell_and_message(done, w, c, Kind::Free, slot, whole)
 }
 
 // ---- drop

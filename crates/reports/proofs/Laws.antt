@@ -25,12 +25,11 @@ use Rattle.states.specs.Sound.{sound}
 use Rattle.rules.specs.Answers.{succeeds, answered, checked}
 use Rattle.rules.specs.Refusals.{report_lines}
 use Rattle.rules.specs.Payers.{is_caller, payer}
-use Rattle.places.specs.Places.{cell_index}
 use Rattle.payers.specs.Ways.{payers_of, payer_outside}
 use Rattle.reports.specs.declared.Charge.{Charge}
 use Rattle.reports.specs.declared.Books.{Books}
 use Rattle.reports.specs.Report.{amounts_of, count_of, payer_of, belongs_to, is_placed, taken, reported, report}
-use Rattle.reports.specs.Charging.{opened_of, gained, payer_seen, payer_in, charged_one, charged_all, finished_of, count, Within}
+use Rattle.reports.specs.Charging.{opened_of, gained, payer_in, charged_one, charged_all, finished_of, count, Within}
 use Rattle.reports.proofs.Sizes.{gains_bits}
 
 -- ---- no total leaves its range
@@ -210,7 +209,7 @@ module _ (𝓜 : Machine) where
 
 -- ---- the table of payers says who pays
 payer_in_lem : (s : Tables) (c : Charge) → payer_in eight (payers_of eight s) c ≡ payer_of eight s c
-unfolding payer_seen cell_index
+unfolding payer_in
 payer_in_lem s c = go (ltb w 8 && ltb d 32) refl
   where
     w : ℕ
@@ -220,7 +219,7 @@ payer_in_lem s c = go (ltb w 8 && ltb d 32) refl
     d = c.cell
 
     go : (t : Bool) → (ltb w 8 && ltb d 32) ≡ t
-        → cond t (get_or (payers_of eight s) (cond t (w * 32 + d) 0) 0) 256 ≡ payer eight s w d
+        → cond t (get_or (payers_of eight s) (w * 32 + d) 0) 256 ≡ payer eight s w d
     go true e =
         let low : w < 8 = ltb-true w 8 (and_l (ltb w 8) (ltb d 32) e) in
         let col : d < 32 = ltb-true d 32 (and_r (ltb w 8) (ltb d 32) e) in

@@ -2,7 +2,6 @@
 use Rattle.std.specs.Prelude.{ℕ, ◌+◌, ◌*◌, ◌≤◌, Bool, true, false, ◌&&◌, cond, List, [], ◌∷◌, ltb, ℤ, pos, nat_abs, ◌+ℤ◌, get_or, set, replicate}
 use Rattle.tables.specs.Machine.{Machine, Tables}
 use Rattle.rules.specs.Payers.{is_caller}
-use Rattle.places.specs.Places.{cell_index}
 use Rattle.payers.specs.Ways.{payers_of}
 use Rattle.reports.specs.declared.Charge.{Charge}
 use Rattle.reports.specs.declared.Books.{Books}
@@ -23,13 +22,9 @@ gained false who a b =
     record { outcome = b.outcome; payers = b.payers; totals = b.totals; unplaced = b.unplaced +ℤ a; placed = b.placed; missed = b.missed + 1 }
 
 module _ (𝓜 : Machine) where
-  -- who pays for the cell c of worker w, where this is read
-  unfoldable pub payer_seen : ℕ → ℕ → ℕ → ℕ
-  payer_seen w c who = cond (ltb w 𝓜.workers && ltb c 𝓜.cells) who 256
-
-  -- and by the table
-  abbrev pub payer_in : List ℕ → Charge → ℕ
-  payer_in payers c = payer_seen c.worker c.cell (get_or payers (cell_index 𝓜 c.worker c.cell) 0)
+  -- who pays for a charge's cell, by the table
+  unfoldable pub payer_in : List ℕ → Charge → ℕ
+  payer_in payers c = cond (ltb c.worker 𝓜.workers && ltb c.cell 𝓜.cells) (get_or payers (c.worker * 𝓜.cells + c.cell) 0) 256
 
   -- one charge more, and all of a list, one after the other
   unfoldable pub charged_one : Books → Charge → Books

@@ -9,12 +9,12 @@ ghost use Rattle.rules.specs.Answers.{succeeds};
 ghost use Rattle.rules.specs.Refusals.{report_lines};
 ghost use Rattle.quiet.specs.Verdicts.{first_hit};
 ghost use Rattle.reports.specs.Report.{reported, report};
-ghost use Rattle.reports.specs.Charging.{payer_seen, opened_of, charged_one, finished_of, count, Within};
+ghost use Rattle.reports.specs.Charging.{payer_in, opened_of, charged_one, finished_of, count, Within};
 
 use payers::NOBODY;
 use quiet::refusals::state_refusal;
 use quiet::verdict::refuse_if;
-use tables::{ALL_CELLS, CELLS, Outcome, Refusal, State, WORKERS};
+use tables::{ALL_CELLS, CELL_ROW, CELLS, Outcome, Refusal, State, WORKERS};
 
 // How many callers there are, and how many charges a list may have.
 pub const CALLERS: usize = 256;
@@ -120,13 +120,13 @@ fn plus(total: i64, amount: i32) -> i64
     total + i64::from(amount)
 }
 
-// Who pays for the cell c of worker w, where `who` is read.
-#[tactic(auto, unfolding(crate::specs::Charging::payer_seen))]
-fn payer_seen(w: u8, c: u8, who: u16) -> u16
-    ensures { result ≡ payer_seen eight w c who }
+// Who pays for a charge's cell, by the table.
+#[tactic(auto, unfolding(crate::specs::Charging::payer_in))]
+fn payer_in(payers: &[u16; ALL_CELLS], c: Charge) -> u16
+    ensures { result ≡ payer_in eight payers.now c }
 {
-    if w < WORKERS && c < CELLS {
-        who
+    if c.worker < WORKERS && c.cell < CELLS {
+        payers[c.worker as usize * CELL_ROW + c.cell as usize]
     } else {
         NOBODY
     }
@@ -138,8 +138,7 @@ fn charged(mut b: Books, c: Charge) -> Books
     ensures value { result ≡ charged_one eight b c }
     ensures within { Within result (count b + 1) }
 {
-    let i = places::cell_index(c.worker, c.cell);
-    let who = payer_seen(c.worker, c.cell, b.payers[i]);
+    let who = payer_in(&b.payers, c);
     if who < NOBODY {
         let j = who as usize;
         let new = plus(b.totals[j], c.amount);

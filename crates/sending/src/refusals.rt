@@ -2,7 +2,7 @@
 ghost use Rattle.std.specs.Prelude.{◌≡◌, cond, [], ◌∷◌};
 ghost use Rattle.tables.specs.Machine.{eight};
 ghost use Rattle.tables.specs.Parts.{is_ex};
-ghost use Rattle.rules.specs.Refusals.{idle, read_sends, no_slot_if};
+ghost use Rattle.rules.specs.Refusals.{read_sends, no_slot_if};
 ghost use Rattle.rules.specs.Refusals.{send_lines, room_lines, by_reference_lines, by_location_lines};
 ghost use Rattle.quiet.specs.Verdicts.{first_hit};
 
@@ -77,14 +77,11 @@ pub fn end_refusals(k: Kind, u: Used, room: Room) -> Result<(), Refusal>
 pub fn read_sends(k: Kind) -> bool
     ensures { result ≡ read_sends k }
 {
-    match k {
-        Kind::Ex { status, .. } => idle(status),
-        _ => false,
-    }
-}
-
-fn idle(st: Status) -> bool
-    ensures { result ≡ idle st }
-{
-    matches!(st, Status::Idle)
+    matches!(
+        k,
+        Kind::Ex {
+            status: Status::Idle,
+            ..
+        }
+    )
 }
