@@ -163,6 +163,7 @@ pub fn value_of(answer: Outcome) -> u32
 }
 
 // The line of a code and a value.
+#[tactic(auto, unfolding(crate::specs::AnswerLines::line_of))]
 fn line_of(code: u8, value: u32) -> [u8; 11]
     ensures { result ≡ line_of code value }
 {
