@@ -157,7 +157,7 @@ fn owner_above(rt: &impl Print) -> io::Result<State> {
     Ok(put_cell(put_entry(s, 1, 1, live(4, 5)), 0, 5, idle(1, 1, 5)))
 }
 
-// ---- a call: its line, and the state after it
+// ---- a call: its line, and the state after it; a function for each, since each is tried as it stands in its crate, and `step` over all
 
 fn show(rt: &impl Print, name: &str, a: u8, b: u8, c: u8, reply: Reply) -> io::Result<State> {
     let code = frames::code_of(reply.outcome);
