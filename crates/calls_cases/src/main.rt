@@ -6,30 +6,12 @@
 use cases_parts::{ex, idle, live, tainted};
 use lookups::{put_cell, put_entry, put_message};
 use std::io;
-use tables::{Call, Kind, Outcome, Reply, State, Status};
+use tables::{Call, Kind, Reply, State, Status};
 
 // ---- parts
 
 fn known(owner: u8, entry: u8, weight: u32, n: u32) -> Kind {
     ex(owner, entry, weight, Status::Known(n), false)
-}
-
-// ---- lines
-
-fn write_answer(rt: &impl Print, name: &[u8], outcome: Outcome) -> io::Result<()> {
-    rt.write_all(name)?;
-    rt.write_all(b" ")?;
-    let line = frames::answer_line(outcome);
-    rt.write_all(&line)
-}
-
-// A name and three bytes, as the last six digits of a number.
-fn write_bytes(rt: &impl Print, name: &[u8], a: u8, b: u8, c: u8) -> io::Result<()> {
-    rt.write_all(name)?;
-    rt.write_all(b" ")?;
-    let n = a as u32 * 0x0001_0000 + b as u32 * 0x0100 + c as u32;
-    let line = frames::answer_line(Outcome::Done(n));
-    rt.write_all(&line[4..10])
 }
 
 // ---- states
@@ -80,7 +62,7 @@ fn messages(s: State) -> State {
 
 // Four workers, five live entries, slots from 2 on empty; bound is 8.
 fn base(rt: &impl Print) -> io::Result<State> {
-    rt.write_all(b"base\n")?;
+    println!(rt; "base")?;
     let s = cells_of_1(cells_of_0(changes::all_free(4)));
     Ok(messages(entries(cells_of_2_and_3(s))))
 }
@@ -88,14 +70,13 @@ fn base(rt: &impl Print) -> io::Result<State> {
 // The base, but entry 0 of worker 0 weighs one more than is held on it.
 fn unsound(rt: &impl Print) -> io::Result<State> {
     let s = base(rt)?;
-    rt.write_all(b"unsound\n")?;
+    println!(rt; "unsound")?;
     Ok(put_entry(s, 0, 0, live(0, 1511)))
 }
 
 // The cells of worker w from one number to below another are VARs.
 fn crowd(rt: &impl Print, s: State, w: u8, from: u8, below: u8) -> io::Result<State> {
-    write_bytes(rt, b"crowd", w, from, below)?;
-    rt.write_all(b"\n")?;
+    println!(rt; "crowd {w:02x}{from:02x}{below:02x}")?;
     let mut t = s;
     for c in from..below {
         t = put_cell(t, w, c, Kind::Var { caller: 0 });
@@ -105,7 +86,7 @@ fn crowd(rt: &impl Print, s: State, w: u8, from: u8, below: u8) -> io::Result<St
 
 // The empty slots of the base hold Releases of weight 1 of entry 1 of worker 0.
 fn fill_slots(rt: &impl Print, s: State) -> io::Result<State> {
-    rt.write_all(b"fill-slots\n")?;
+    println!(rt; "fill-slots")?;
     let release = cases_parts::release(0, 1, 1);
     let mut t = put_entry(s, 0, 1, live(1, 265));
     for k in 2..64u8 {
@@ -118,7 +99,7 @@ fn fill_slots(rt: &impl Print, s: State) -> io::Result<State> {
 // unsafe EX, are not exported.
 fn full_entries(rt: &impl Print) -> io::Result<State> {
     let mut s = base(rt)?;
-    rt.write_all(b"full-entries\n")?;
+    println!(rt; "full-entries")?;
     s = put_cell(s, 0, 16, Kind::Var { caller: 0 });
     s = put_cell(s, 0, 17, idle(1, 1, 5));
     s = put_entry(s, 1, 1, live(4, 5));
@@ -132,14 +113,14 @@ fn full_entries(rt: &impl Print) -> io::Result<State> {
 
 // Entry 0 of worker 0, a VAR's, of that weight, all but 510 of it held by cell 0 of worker 1.
 fn heavy_var(rt: &impl Print, s: State, weight: u32, held: u32) -> io::Result<State> {
-    write_answer(rt, b"heavy-var", Outcome::Done(weight))?;
+    println!(rt; "heavy-var 00{weight:08x}")?;
     Ok(put_entry(put_cell(s, 1, 0, idle(0, 0, held)), 0, 0, live(0, weight)))
 }
 
 // Entry 1 of worker 0, a VAL's, of that weight, all but 200 of it held by the known EX of worker 1.
 fn heavy_val(rt: &impl Print, weight: u32, held: u32) -> io::Result<State> {
     let s = base(rt)?;
-    write_answer(rt, b"heavy-val", Outcome::Done(weight))?;
+    println!(rt; "heavy-val 00{weight:08x}")?;
     Ok(put_entry(
         put_cell(s, 1, 2, known(0, 1, held, 7)),
         0,
@@ -151,114 +132,112 @@ fn heavy_val(rt: &impl Print, weight: u32, held: u32) -> io::Result<State> {
 // Entry 0 of worker 2, an EX's, of that weight, all held by cell 0 of worker 3.
 fn heavy_ex(rt: &impl Print, weight: u32) -> io::Result<State> {
     let s = base(rt)?;
-    write_answer(rt, b"heavy-ex", Outcome::Done(weight))?;
+    println!(rt; "heavy-ex 00{weight:08x}")?;
     Ok(put_entry(put_cell(s, 3, 0, idle(2, 0, weight)), 2, 0, live(2, weight)))
 }
 
 // The base with the exported VAR of worker 1 and the EX that names it, of worker 2, tainted.
 fn tainted_var(rt: &impl Print) -> io::Result<State> {
     let s = base(rt)?;
-    rt.write_all(b"tainted-var\n")?;
+    println!(rt; "tainted-var")?;
     Ok(put_entry(put_entry(s, 1, 0, tainted(3, 150)), 2, 0, tainted(2, 1)))
 }
 
 // The base with REFs to the known EX in place of the two VARs of worker 1.
 fn known_refs(rt: &impl Print) -> io::Result<State> {
     let s = base(rt)?;
-    rt.write_all(b"known-refs\n")?;
+    println!(rt; "known-refs")?;
     Ok(put_cell(put_cell(s, 1, 3, Kind::Ref(2)), 1, 4, Kind::Ref(2)))
 }
 
 // The base with an unsafe EX of worker 0 that is not exported: its owner is worker 1.
 fn owner_above(rt: &impl Print) -> io::Result<State> {
     let s = base(rt)?;
-    rt.write_all(b"owner-above\n")?;
+    println!(rt; "owner-above")?;
     Ok(put_cell(put_entry(s, 1, 1, live(4, 5)), 0, 5, idle(1, 1, 5)))
 }
 
-// ---- a call: its line, and the state after it
+// ---- a call: its line, and the state after it; a function for each, since each is tried as it stands in its crate, and `step` over all
 
-fn show(rt: &impl Print, name: &[u8], a: u8, b: u8, c: u8, reply: Reply) -> io::Result<State> {
-    write_bytes(rt, name, a, b, c)?;
-    let outcome = reply.outcome;
-    write_answer(rt, b"", outcome)?;
-    let next = reply.state;
-    Ok(next)
+fn show(rt: &impl Print, name: &str, a: u8, b: u8, c: u8, reply: Reply) -> io::Result<State> {
+    let code = frames::code_of(reply.outcome);
+    let value = frames::value_of(reply.outcome);
+    println!(rt; "{name} {a:02x}{b:02x}{c:02x} {code:02x}{value:08x}")?;
+    Ok(reply.state)
 }
 
 fn start(rt: &impl Print, p: u8) -> io::Result<State> {
-    show(rt, b"start", p, 0, 0, quiet::start(p))
+    show(rt, "start", p, 0, 0, quiet::start(p))
 }
 
 fn new(rt: &impl Print, s: State, w: u8) -> io::Result<State> {
-    show(rt, b"new", w, 0, 0, quiet::new(s, w, 0))
+    show(rt, "new", w, 0, 0, quiet::new(s, w, 0))
 }
 
 fn set(rt: &impl Print, s: State, w: u8, c: u8, n: u32) -> io::Result<State> {
-    show(rt, b"set", w, c, 0, quiet::set(s, w, c, n))
+    show(rt, "set", w, c, 0, quiet::set(s, w, c, n))
 }
 
 fn bind(rt: &impl Print, s: State, w: u8, c: u8, x: u8) -> io::Result<State> {
-    show(rt, b"bind", w, c, x, quiet::bind(s, w, c, x))
+    show(rt, "bind", w, c, x, quiet::bind(s, w, c, x))
 }
 
 fn export(rt: &impl Print, s: State, w: u8, c: u8, to: u8) -> io::Result<State> {
-    show(rt, b"export", w, c, to, sending::export(s, w, c, to))
+    show(rt, "export", w, c, to, sending::export(s, w, c, to))
 }
 
 fn indirect(rt: &impl Print, s: State, w: u8, c: u8, to: u8) -> io::Result<State> {
-    show(rt, b"indirect", w, c, to, sending::indirect(s, w, c, to))
+    show(rt, "indirect", w, c, to, sending::indirect(s, w, c, to))
 }
 
 fn transfer(rt: &impl Print, s: State, w: u8, c: u8, to: u8) -> io::Result<State> {
-    show(rt, b"transfer", w, c, to, sending::transfer(s, w, c, to))
+    show(rt, "transfer", w, c, to, sending::transfer(s, w, c, to))
 }
 
 fn drop(rt: &impl Print, s: State, w: u8, c: u8) -> io::Result<State> {
-    show(rt, b"drop", w, c, 0, sending::drop(s, w, c))
+    show(rt, "drop", w, c, 0, sending::drop(s, w, c))
 }
 
 fn read(rt: &impl Print, s: State, w: u8, c: u8) -> io::Result<State> {
-    show(rt, b"read", w, c, 0, sending::read(s, w, c))
+    show(rt, "read", w, c, 0, sending::read(s, w, c))
 }
 
 fn ask(rt: &impl Print, s: State, w: u8, c: u8) -> io::Result<State> {
-    show(rt, b"ask", w, c, 0, sending::ask(s, w, c))
+    show(rt, "ask", w, c, 0, sending::ask(s, w, c))
 }
 
 fn deliver(rt: &impl Print, s: State, slot: u8) -> io::Result<State> {
-    show(rt, b"deliver", slot, 0, 0, deliveries::deliver(s, slot))
+    show(rt, "deliver", slot, 0, 0, deliveries::deliver(s, slot))
 }
 
 fn bound(rt: &impl Print, s: State) -> io::Result<State> {
-    show(rt, b"bound", 0, 0, 0, quiet::bound(s))
+    show(rt, "bound", 0, 0, 0, quiet::bound(s))
 }
 
 // The call is not written, its answer is.
 fn step(rt: &impl Print, s: State, q: Call) -> io::Result<State> {
     let reply = calls::step(s, q);
-    let outcome = reply.outcome;
-    write_answer(rt, b"step", outcome)?;
-    let next = reply.state;
-    Ok(next)
+    let code = frames::code_of(reply.outcome);
+    let value = frames::value_of(reply.outcome);
+    println!(rt; "step {code:02x}{value:08x}")?;
+    Ok(reply.state)
 }
 
 // ---- looks
 
-fn look(rt: &impl Print, name: &[u8], w: u8, i: u8, n: u32) -> io::Result<()> {
-    write_bytes(rt, name, w, i, 0)?;
-    write_answer(rt, b"", Outcome::Done(n))
+fn look(rt: &impl Print, name: &str, w: u8, i: u8, n: u32) -> io::Result<()> {
+    println!(rt; "{name} {w:02x}{i:02x}00 00{n:08x}")
 }
 
 fn broken_point(rt: &impl Print, s: State) -> io::Result<()> {
-    look(rt, b"broken-point", 0, 0, sound::first_broken(s) as u32)
+    look(rt, "broken-point", 0, 0, sound::first_broken(s) as u32)
 }
 
 fn ex_weight(rt: &impl Print, s: State, w: u8, c: u8) -> io::Result<()> {
     let cells = s.cells;
     look(
         rt,
-        b"ex-weight",
+        "ex-weight",
         w,
         c,
         parts::ex_weight(lookups::cell_at(cells, w, c)),
@@ -270,7 +249,7 @@ fn weight(rt: &impl Print, s: State, w: u8, e: u8) -> io::Result<()> {
     let entries = s.entries;
     look(
         rt,
-        b"weight",
+        "weight",
         w,
         e,
         parts::entry_weight(lookups::entry_at(entries, w, e)),
@@ -281,7 +260,7 @@ fn weight(rt: &impl Print, s: State, w: u8, e: u8) -> io::Result<()> {
 fn taint(rt: &impl Print, s: State, w: u8, e: u8) -> io::Result<()> {
     let entries = s.entries;
     let t = parts::is_tainted(lookups::entry_at(entries, w, e));
-    look(rt, b"taint", w, e, numbers::bit_of(t) as u32)
+    look(rt, "taint", w, e, numbers::bit_of(t) as u32)
 }
 
 // ---- start

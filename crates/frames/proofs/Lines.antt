@@ -8,9 +8,9 @@ use borrow.Author.Rules.{rules}
 use borrow.Author.Tests.{lt-ltb, le-ltb}
 use lib.Dec.{eqb, ltb}
 use lib.ListN.{length, take, drop, length-drop, drop_of_length-le}
-use lib.Seq.{drop-drop, length-take-le}
+use lib.Seq.{take_all, drop-drop, length-take-le}
 use Rattle.std.specs.Prelude.{Some, None, cond, unwrap_or}
-use Rattle.std.specs.List.{position, position_or_len}
+use Rattle.std.specs.List.{slice_range, position, position_or_len}
 use Rattle.std.proofs.Common.{inl, inr}
 use Rattle.std.proofs.lemmas.Bool.{cases_lt}
 use Rattle.std.proofs.lemmas.List.Recursion.{is_position_or_len}
@@ -73,9 +73,14 @@ as_position l =
     let e : to_newline l ≡ position_or_len (λ x. eqb x 10) l = is_position_or_len to_newline (λ x. eqb x 10) refl (λ x xs. ap (λ n. cond (eqb x 10) 0 n) (omega arith)) l in
     rw e (place_or_length _ _ (prefix_len-le-length _ l))
 
--- no line starts past the end
+-- where a line ends: past the end of the text, and from what stands at a place
 pub ends_past : (s : List ℕ) (at : ℕ) → length s < at → at ≡ line_end s at
 unfolding to_newline
 ends_past s at h = let e : drop at s ≡ [] = drop_of_length-le s (omega arith) in rw e (omega arith)
 
-pub ruleset ends = (rules, ends_past)
+pub ends_within : (s rest : List ℕ) (at n : ℕ) → rest ≡ slice_range s at (length s) → n ≡ unwrap_or (position (λ x. eqb x 10) rest) (length rest) → at + n ≡ line_end s at
+ends_within s rest at n e f =
+    let g : rest ≡ drop at s = e ∙ take_all _ (drop at s) (omega (arith, length-drop at s)) in
+    rw (f, g) (ap (λ n. at + n) (as_position (drop at s)))
+
+pub ruleset ends = (rules, ends_past, ends_within)

@@ -162,7 +162,8 @@ pub fn value_of(answer: Outcome) -> u32
     }
 }
 
-// The line of a code and a value.
+// The line of a code and a value, digit by digit: a format into a buffer could fail, and this cannot.
+#[tactic(auto, unfolding(crate::specs::AnswerLines::line_of))]
 fn line_of(code: u8, value: u32) -> [u8; 11]
     ensures { result ≡ line_of code value }
 {

@@ -1,6 +1,6 @@
 -- What is found at a place, from the text; and what follows of the text, for a loop that reads it. Assumes nothing.
 use Prim.Native.Nat.{ℕ, ◌+◌, ◌-◌, ◌≤◌, ◌<◌}
-use mathlib.Core.Path.{◌≡◌, refl, ap, ◌∙◌}
+use mathlib.Core.Path.{◌≡◌, refl, sym, ap, ◌∙◌}
 use mathlib.Core.Logic.{inl, inr}
 use mathlib.Core.List.{List, [], ◌∷◌}
 use native.Mathlib.Omega.{arith}
@@ -10,7 +10,8 @@ use Rattle.std.specs.Prelude.{Option, Some, None, option_map, unwrap_or}
 use Rattle.tables.specs.declared.Call.{Call}
 use Rattle.frames.specs.Frames.{decode}
 use Rattle.frames.specs.Lines.{lines_of, to_newline, line_end}
-use Rattle.frames.proofs.Lines.{line_at, no_line_at, first_length}
+use borrow.Author.Rules.{rules}
+use Rattle.frames.proofs.Lines.{line_within, line_at, no_line_at, first_length}
 use Rattle.reader.specs.Read.{read_at}
 use Rattle.reader.specs.declared.Passage.{Passage}
 
@@ -33,6 +34,10 @@ module _ (s : List ℕ) (at : ℕ) where
   unfolding read_at
   finds_line h = rw (line_at s at h, first_length (drop at s), add-sub_cancel_left)
 
+  -- whose place is within the text
+  pub ends_within : at < length s → line_end s at ≤ length s
+  ends_within h = line_within s at (omega arith)
+
   pub got : (p : Passage) → read_at s at ≡ Some p → Got s at p.frame p.next
   got p e = elim (eq-zero-or-pos (length s - at)) [
     | inl z ↦ absurd (let h = finds_end (omega arith) ∙ e in let z : ◌≡◌ {A = ℕ} 0 1 = cc in omega arith)
@@ -54,6 +59,12 @@ module _ (s : List ℕ) (at : ℕ) where
     | inl z ↦ no_line_at s at (omega arith)
     | inr p ↦ absurd (let h = finds_line (omega arith) ∙ e in let z : ◌≡◌ {A = ℕ} 0 1 = cc in omega arith)
   ]
+
+  -- a line that was found is no longer left
+  pub fewer : {o : Option Passage} {p : Passage} → o ≡ read_at s at → o ≡ Some p → length (lines_of (drop p.next s)) < length (lines_of (drop at s))
+  fewer {p = p} e f = omega (arith, ap length (got p (sym e ∙ f)).lines)
+
+pub ruleset finds = (rules, finds_end, finds_line, ends_within)
 
 -- a step of a reader: its line is the first of those left, or none is left
 module _ (s : List ℕ) (at : ℕ) where

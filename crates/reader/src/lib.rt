@@ -16,6 +16,7 @@ struct Passage {
 }
 
 // The work: the line at a place of a slice, or none at its end.
+#[tactic(auto, using(crate::proofs::Laws::finds))]
 fn read_at(text: &[u8], at: usize) -> Option<Passage>
     ensures { result ≡ read_at text.now at }
 {
@@ -54,6 +55,7 @@ impl<'a> Iterator for Reader<'a> {
 
     ghost remaining = { item_count lines_left };
 
+    #[tactic(auto, using(crate::proofs::Laws::fewer))]
     fn next(&mut self) -> Option<Option<Call>> {
         let here = read_at(self.text, self.at)?;
         self.at = here.next;
