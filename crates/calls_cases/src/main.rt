@@ -230,37 +230,25 @@ fn look(rt: &impl Print, name: &str, w: u8, i: u8, n: u32) -> io::Result<()> {
 }
 
 fn broken_point(rt: &impl Print, s: State) -> io::Result<()> {
-    look(rt, "broken-point", 0, 0, sound::first_broken(s) as u32)
+    let n = sound::first_broken(&s).map_or(0, |point| point as u32);
+    look(rt, "broken-point", 0, 0, n)
 }
 
 fn ex_weight(rt: &impl Print, s: State, w: u8, c: u8) -> io::Result<()> {
-    let cells = s.cells;
-    look(
-        rt,
-        "ex-weight",
-        w,
-        c,
-        parts::ex_weight(lookups::cell_at(cells, w, c)),
-    )
+    let k = lookups::cell_at(&s.cells, w, c);
+    look(rt, "ex-weight", w, c, parts::ex_weight(k))
 }
 
 // The weight of an entry, 0 where it is free.
 fn weight(rt: &impl Print, s: State, w: u8, e: u8) -> io::Result<()> {
-    let entries = s.entries;
-    look(
-        rt,
-        "weight",
-        w,
-        e,
-        parts::entry_weight(lookups::entry_at(entries, w, e)),
-    )
+    let x = lookups::entry_at(&s.entries, w, e);
+    look(rt, "weight", w, e, parts::entry_weight(x))
 }
 
 // 1 for a tainted entry, 0 for another.
 fn taint(rt: &impl Print, s: State, w: u8, e: u8) -> io::Result<()> {
-    let entries = s.entries;
-    let t = parts::is_tainted(lookups::entry_at(entries, w, e));
-    look(rt, "taint", w, e, numbers::bit_of(t) as u32)
+    let x = lookups::entry_at(&s.entries, w, e);
+    look(rt, "taint", w, e, u32::from(parts::is_tainted(x)))
 }
 
 // ---- start

@@ -1,2 +1,0 @@
--- Where a table of all cells is read.
-pub mod Places
