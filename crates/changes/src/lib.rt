@@ -152,7 +152,7 @@ pub fn replied(s: State, d: Effect) -> Reply
 
 // ---- new, set and bind
 
-// A variable of this caller; of the last one, where the caller is above it: that is refused, and the answer is not used.
+// A variable of this caller; of the last one, where the caller is above it, which `new` refuses.
 pub fn variable(caller: u32) -> Kind
     ensures { result ≡ Var (min caller 255) }
 {
