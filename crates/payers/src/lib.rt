@@ -38,9 +38,7 @@ fn led_to(w: u8, x: Holding) -> Way
     ensures { result ≡ led_to eight w x }
 {
     match x {
-        Some(Live { cell, .. }) if w < WORKERS && cell < CELLS => {
-            Way::LeadsTo(w * CELLS + cell)
-        }
+        Some(Live { cell, .. }) if w < WORKERS && cell < CELLS => { Way::LeadsTo(w * CELLS + cell) }
         _ => Way::Neither,
     }
 }
