@@ -30,7 +30,7 @@ pub fn idle(owner: u8, entry: u8, weight: u32) -> Kind
     ex(owner, entry, weight, Status::Idle, false)
 }
 
-// ---- entries
+// ---- entries, tainted or not: two names, since the hand-made states are read by them
 
 pub fn live(cell: u8, weight: u32) -> Holding
     ensures { result ≡ live cell weight false }

@@ -47,7 +47,7 @@ pub fn add_weights(a: u32, b: u32) -> u32
     a + b
 }
 
-// ---- what is done, and the state then
+// ---- what is done, and the state then. Each way to do it makes another variant of `Change`, so each is a function.
 
 // This outcome, and nothing changed.
 pub fn unchanged(outcome: Outcome) -> Effect

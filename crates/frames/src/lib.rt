@@ -138,7 +138,7 @@ pub fn line_end(text: &[u8], at: usize) -> usize
     at + newline(rest).unwrap_or(rest.len())
 }
 
-// The code of an answer.
+// The code of an answer. It and the next are functions and no From: the type stands in `tables`, and what they are equal to in `rules` (`code_of`).
 pub fn code_of(answer: Outcome) -> u8
     ensures { result ≡ code_of answer }
 {
@@ -189,7 +189,7 @@ pub fn answer_line(answer: Outcome) -> [u8; 11]
     line_of(code_of(answer), value_of(answer))
 }
 
-// The line that answers a line that is no frame.
+// The line that answers a line that is no frame. It and the next are two sentences of document 01 (`no_frame_line`, `too_long_line`).
 pub fn no_frame_line() -> [u8; 11]
     ensures { result ≡ no_frame_line }
 {

@@ -83,7 +83,7 @@ pub fn named_by(k: Kind) -> Option<EntryName>
     }
 }
 
-// The weight of an EX, 0 for any other cell.
+// The weight of an EX, 0 for any other cell: a weight to compare and to add, so no Option.
 pub fn ex_weight(k: Kind) -> u32
     ensures { result ≡ ex_weight k }
 {
@@ -137,14 +137,14 @@ pub fn entry_names(c: u8, x: Holding) -> bool
     x.is_some_and(|live| live.cell == c)
 }
 
-// The cell that an entry names, 0 where it is free.
+// The cell that an entry names, 0 where it is free, as the rules have it (`cell_of`).
 pub fn cell_of(x: Holding) -> u8
     ensures { result ≡ cell_of x }
 {
     x.map_or(0, |live| live.cell)
 }
 
-// The weight of an entry, 0 where it is free.
+// The weight of an entry, 0 where it is free: a weight to compare and to add, so no Option.
 pub fn entry_weight(x: Holding) -> u32
     ensures { result ≡ entry_weight x }
 {

@@ -1,5 +1,6 @@
 // What is sought and counted in the tables: the lowest cell, entry or slot of a kind, and how many there are. Each function is lent the one table
-// that it walks over and says what it finds of any tables t that have this one; past the last worker all is free.
+// that it walks over and says what it finds of any tables t that have this one; past the last worker all is free. Where none is found the number is the
+// one past the last, and no Option: so the rules have it (`lowest_free_cell` to `ex_naming` in Look.antt), and every caller would turn it back.
 #![tactic(auto)]
 
 ghost use Rattle.std.specs.Prelude.{◌≡◌, ◌||◌};

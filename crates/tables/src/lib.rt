@@ -75,6 +75,7 @@ pub struct Live {
 // What an export entry holds: it is live, or free.
 pub type Holding = Option<Live>;
 
+// A struct, as a cell is by document 01's form: the definitions say `holding`, `kind` and `message`.
 #[derive(Clone, Copy)]
 pub struct Entry {
     pub holding: Holding,
@@ -185,7 +186,8 @@ pub enum Refusal {
     TooManyCharges = 17,
 }
 
-// A call's answer: done with a value, sent with its slot, or without a value.
+// A call's answer: done with a value, sent with its slot, or without a value. Refusals are among them and no Err, since by document 01's form one
+// definition gives code and value of each case.
 #[derive(Clone, Copy)]
 pub enum Outcome {
     Done(u32),
