@@ -1,4 +1,5 @@
-// What a delivery does where it is not refused, message by message.
+// What a delivery does where it is not refused, message by message. That the state is sound stands as a condition where it is needed: a type that says
+// it would hold the lent state, and its contracts would be no plainer.
 ghost use Rattle.std.specs.Prelude.{◌≤◌, ◌-◌, min, ◌≡◌, true};
 ghost use Rattle.tables.specs.declared.Message.TheVariants.{Reference, Read};
 ghost use Rattle.tables.specs.declared.Change.TheVariants.{OfSlot};

@@ -1,2 +1,2 @@
--- The verdict that the calls carry along the lines of the table of refusal numbers.
+-- The verdict on the lines of the table of refusal numbers, which the calls pass on.
 pub mod Verdicts
