@@ -66,7 +66,7 @@ pub fn is_asking(k: Kind) -> bool
     matches!(k, Kind::Ex { asking: true, .. })
 }
 
-// An EX that names the entry e of worker o.
+// An EX that names the entry e of worker o: two numbers here and in other tests, as frames, messages and rules have them (`ex_names o e k`).
 pub fn ex_names(o: u8, e: u8, k: Kind) -> bool
     ensures { result ≡ ex_names o e k }
 {
@@ -83,7 +83,7 @@ pub fn named_by(k: Kind) -> Option<EntryName>
     }
 }
 
-// The weight of an EX, 0 for any other cell: a weight to compare and to add, so no Option.
+// The weight of an EX, 0 for any other cell, as the rules have it (`ex_weight`).
 pub fn ex_weight(k: Kind) -> u32
     ensures { result ≡ ex_weight k }
 {
@@ -144,7 +144,7 @@ pub fn cell_of(x: Holding) -> u8
     x.map_or(0, |live| live.cell)
 }
 
-// The weight of an entry, 0 where it is free: a weight to compare and to add, so no Option.
+// The weight of an entry, 0 where it is free, as the rules have it (`entry_weight`).
 pub fn entry_weight(x: Holding) -> u32
     ensures { result ≡ entry_weight x }
 {

@@ -88,7 +88,7 @@ pub fn put<T: Part>(table: &mut [T], w: u8, i: u8, x: T)
     }
 }
 
-// The lowest of the row w that is sought, the width where there is none. By number, since past the last row there is no slice to walk.
+// The lowest of the row w that is sought, the width where there is none. By number, as the count below: past the last row there is no slice to walk.
 pub fn lowest<T: Part, F: Fn(T) -> bool>(table: &[T], w: u8, sought: F) -> u8
     requires { F.IsAlwaysCallable sought }
     ensures { (q : T → Bool) → ((x : T) (b : Bool) → F.post sought x b → b ≡ q x) → result ≡ lowest T.WIDTH (λ i. q (row_at T.WIDTH T.free table.now w i)) }

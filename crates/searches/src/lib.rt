@@ -1,6 +1,6 @@
 // What is sought and counted in the tables: the lowest cell, entry or slot of a kind, and how many there are. Each function is lent the one table
 // that it walks over and says what it finds of any tables t that have this one; past the last worker all is free. Where none is found the number is the
-// one past the last, and no Option: so the rules have it (`lowest_free_cell` to `ex_naming` in Look.antt), and every caller would turn it back.
+// one past the last, and no Option: the rules have it so (`lowest_free_cell` in Look.antt) and put it into effects; seven of nine callers would turn it back.
 #![tactic(auto)]
 
 ghost use Rattle.std.specs.Prelude.{◌≡◌, ◌||◌};
@@ -91,8 +91,11 @@ pub fn free_cells(cells: &CellTable, w: u8) -> u8
 pub fn booked(slots: &SlotTable, w: u8) -> u8
     ensures { (t : Tables) → t.slots ≡ slots.now → result ≡ booked t w }
 {
-    let going = slots.iter().filter(|x| parts::goes_to(w, x.message));
-    going.count() as u8
+    let mut n = 0;
+    for x in slots {
+        n += u8::from(parts::goes_to(w, x.message));
+    }
+    n
 }
 
 // How many entries are live.

@@ -11,7 +11,8 @@ use tables::{CELL_ROW, EntryName, Kind, Message, State, Status};
 
 // ---- each reading EX has exactly one Read or Answer, each asking EX exactly one Ask or Supply
 
-// A Read or an Answer for the cell c of worker w. It and the next are two rules (`reads_for`, `asks_for`) over other messages: no common form is plainer.
+// A Read or an Answer for the cell c of worker w. It and the next, and their counts, are two rules (`reads_for`, `asks_for`) of other variants,
+// which one function could only tell apart by a closure that lists them.
 fn reads_for(w: u8, c: u8, m: Message) -> bool
     ensures { result ≡ reads_for w c m }
 {
