@@ -9,9 +9,6 @@ ghost use Rattle.payers.specs.Ways.{payer_of, led_to, way_on, end_at, ways_of, p
 use std::array;
 use tables::{ALL_CELLS, CELL_ROW, CELLS, Holding, Kind, Live, State, WORKERS};
 
-// No caller: past the last.
-pub const NOBODY: u16 = 256;
-
 // The way on from a cell's end: a VAR or a VAL is paid for by its caller, an EX leads to another cell, whose place in the table this is.
 #[derive(Clone, Copy)]
 enum Way {
@@ -24,12 +21,12 @@ enum Way {
 type Ways = [Way; ALL_CELLS];
 
 // Who pays at the end of a walk.
-fn payer_of(way: Way) -> u16
+fn payer_of(way: Way) -> Option<u8>
     ensures { result ≡ payer_of way }
 {
     match way {
-        Way::PaidBy(caller) => u16::from(caller),
-        _ => NOBODY,
+        Way::PaidBy(caller) => Some(caller),
+        _ => None,
     }
 }
 
@@ -72,11 +69,11 @@ fn ways_of(s: &State) -> Ways
 }
 
 // Who pays from the cell at `from` on, where at most n references are followed.
-fn pays(ways: &Ways, from: u8, n: u8) -> u16
+fn pays(ways: &Ways, from: u8, n: u8) -> Option<u8>
     ensures { result ≡ pays_by ways.now n from }
 {
     let mut at = from;
-    for _i in 0..n {
+    for _ in 0..n {
         let Way::LeadsTo(next) = ways[at as usize] else {
             break;
         };
@@ -85,8 +82,8 @@ fn pays(ways: &Ways, from: u8, n: u8) -> u16
     payer_of(ways[at as usize])
 }
 
-// Who pays for each cell.
-pub fn payers_of(s: &State) -> [u16; ALL_CELLS]
+// Who pays for each cell, none where nobody does.
+pub fn payers_of(s: &State) -> [Option<u8>; ALL_CELLS]
     ensures { result ≡ payers_of eight (tables s.now) }
 {
     let ways = ways_of(s);

@@ -30,7 +30,7 @@ mag_nat_abs (negsuc n) = omega arith
 
 -- a total z of n amounts gains an amount a
 module _ (z a : ℤ) (n : ℕ) (few : n ≤ 65535) (near : nat_abs z ≤ n * 2147483648) (f : SFits w32 a) where
-  gains_near : nat_abs (z +ℤ a) ≤ (n + 1) * 2147483648
+  pub gains_near : nat_abs (z +ℤ a) ≤ (n + 1) * 2147483648
   gains_near = let s = nat_abs_add z a in let k = nat_abs-le a f.sfits in omega (arith, s, k)
 
   gains_fit : SFits w64 (z +ℤ a)

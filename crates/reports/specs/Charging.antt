@@ -1,7 +1,6 @@
 -- The books that the code keeps while it walks the charges, and how one charge changes them. Assumes nothing.
-use Rattle.std.specs.Prelude.{ℕ, ◌+◌, ◌*◌, ◌≤◌, Bool, true, false, ◌&&◌, cond, List, [], ◌∷◌, ltb, ℤ, pos, nat_abs, ◌+ℤ◌, get_or, set, replicate}
+use Rattle.std.specs.Prelude.{ℕ, ◌+◌, ◌*◌, ◌≤◌, ◌&&◌, cond, Option, Some, None, List, [], ◌∷◌, ltb, ℤ, pos, nat_abs, ◌+ℤ◌, get_or, set, replicate}
 use Rattle.tables.specs.Machine.{Machine, Tables}
-use Rattle.rules.specs.Payers.{is_caller}
 use Rattle.payers.specs.Ways.{payers_of}
 use Rattle.reports.specs.declared.Charge.{Charge}
 use Rattle.reports.specs.declared.Books.{Books}
@@ -13,22 +12,22 @@ abbrev pub opened_of : Machine → Tables → ℕ → Books
 opened_of 𝓜 s n =
     record { outcome = reported 𝓜 s n; payers = payers_of 𝓜 s; totals = replicate 256 (pos 0); unplaced = pos 0; placed = 0; missed = 0 }
 
--- one of the totals gains the amount, or, where no caller is found, the unplaced one
-abbrev pub gained : Bool → ℕ → ℤ → Books → Books
-gained true who a b =
+-- one of the totals gains the amount, or, where nobody pays, the unplaced one
+abbrev pub gained : Option ℕ → ℤ → Books → Books
+gained (Some who) a b =
     let more = set b.totals who (get_or b.totals who (pos 0) +ℤ a) in
     record { outcome = b.outcome; payers = b.payers; totals = more; unplaced = b.unplaced; placed = b.placed + 1; missed = b.missed }
-gained false who a b =
+gained None a b =
     record { outcome = b.outcome; payers = b.payers; totals = b.totals; unplaced = b.unplaced +ℤ a; placed = b.placed; missed = b.missed + 1 }
 
 module _ (𝓜 : Machine) where
   -- who pays for a charge's cell, by the table
-  unfoldable pub payer_in : List ℕ → Charge → ℕ
-  payer_in payers c = cond (ltb c.worker 𝓜.workers && ltb c.cell 𝓜.cells) (get_or payers (c.worker * 𝓜.cells + c.cell) 0) 256
+  unfoldable pub payer_in : List (Option ℕ) → Charge → Option ℕ
+  payer_in payers c = cond (ltb c.worker 𝓜.workers && ltb c.cell 𝓜.cells) (get_or payers (c.worker * 𝓜.cells + c.cell) None) None
 
   -- one charge more, and all of a list, one after the other
   unfoldable pub charged_one : Books → Charge → Books
-  charged_one b c = gained (is_caller (payer_in b.payers c)) (payer_in b.payers c) c.amount b
+  charged_one b c = gained (payer_in b.payers c) c.amount b
 
   unfoldable pub charged_all : Books → List Charge → Books
   charged_all b [] = b

@@ -11,7 +11,6 @@ ghost use Rattle.quiet.specs.Verdicts.{first_hit};
 ghost use Rattle.reports.specs.Report.{reported, report};
 ghost use Rattle.reports.specs.Charging.{payer_in, opened_of, charged_one, finished_of, count, Within};
 
-use payers::NOBODY;
 use quiet::refusals::state_refusal;
 use quiet::verdict::refuse_if;
 use tables::{ALL_CELLS, CELL_ROW, CELLS, Outcome, Refusal, State, WORKERS};
@@ -43,7 +42,7 @@ pub struct CostReport {
 #[derive(Clone, Copy)]
 pub struct Books {
     pub outcome: Outcome,
-    pub payers: [u16; ALL_CELLS],
+    pub payers: [Option<u8>; ALL_CELLS],
     pub totals: [i64; CALLERS],
     pub unplaced: i64,
     pub placed: u32,
@@ -55,13 +54,20 @@ impl From<Books> for CostReport {
     ghost from_gives = { λ b r. r ≡ finished_of b };
 
     fn from(b: Books) -> CostReport {
-        let totals = b.totals;
-        CostReport {
-            outcome: b.outcome,
+        let Books {
+            outcome,
             totals,
-            unplaced: b.unplaced,
-            placed: b.placed,
-            missed: b.missed,
+            unplaced,
+            placed,
+            missed,
+            ..
+        } = b;
+        CostReport {
+            outcome,
+            totals,
+            unplaced,
+            placed,
+            missed,
         }
     }
 }
@@ -86,22 +92,6 @@ fn reported(s: &State, n: usize) -> Outcome
     }
 }
 
-// The books for n charges, before the first.
-fn opened(s: &State, n: usize) -> Books
-    ensures { result ≡ opened_of eight (tables s.now) n }
-{
-    let payers = payers::payers_of(s);
-    let totals = [0i64; CALLERS];
-    Books {
-        outcome: reported(s, n),
-        payers,
-        totals,
-        unplaced: 0,
-        placed: 0,
-        missed: 0,
-    }
-}
-
 // How many of n charges are taken: all, or none where the report is refused.
 fn taken(outcome: Outcome, n: usize) -> usize
     ensures { result ≡ cond (succeeds outcome) n 0 }
@@ -122,44 +112,57 @@ fn plus(total: i64, amount: i32) -> i64
 
 // Who pays for a charge's cell, by the table.
 #[tactic(auto, unfolding(crate::specs::Charging::payer_in))]
-fn payer_in(payers: &[u16; ALL_CELLS], c: Charge) -> u16
+fn payer_in(payers: &[Option<u8>; ALL_CELLS], c: Charge) -> Option<u8>
     ensures { result ≡ payer_in eight payers.now c }
 {
     if c.worker < WORKERS && c.cell < CELLS {
         payers[c.worker as usize * CELL_ROW + c.cell as usize]
     } else {
-        NOBODY
+        None
     }
 }
 
-// One charge more: its payer's total gains the amount, or the unplaced one.
-fn charged(mut b: Books, c: Charge) -> Books
-    requires { Within b 65534 }
-    ensures value { result ≡ charged_one eight b c }
-    ensures within { Within result (count b + 1) }
-{
-    let who = payer_in(&b.payers, c);
-    if who < NOBODY {
-        let j = who as usize;
-        let new = plus(b.totals[j], c.amount);
-        b.totals[j] = new;
-        b.placed += 1;
-    } else {
-        let new = plus(b.unplaced, c.amount);
-        b.unplaced = new;
-        b.missed += 1;
+impl Books {
+    // For n charges, before the first.
+    fn open(s: &State, n: usize) -> Books
+        ensures { result ≡ opened_of eight (tables s.now) n }
+    {
+        Books {
+            outcome: reported(s, n),
+            payers: payers::payers_of(s),
+            totals: [0; CALLERS],
+            unplaced: 0,
+            placed: 0,
+            missed: 0,
+        }
     }
-    b
+
+    // One charge more: its payer's total gains the amount, or the unplaced one.
+    fn charged(mut self, c: Charge) -> Books
+        requires { Within self 65534 }
+        ensures value { result ≡ charged_one eight self c }
+        ensures within { Within result (count self + 1) }
+    {
+        if let Some(who) = payer_in(&self.payers, c) {
+            let j = who as usize;
+            self.totals[j] = plus(self.totals[j], c.amount);
+            self.placed += 1;
+        } else {
+            self.unplaced = plus(self.unplaced, c.amount);
+            self.missed += 1;
+        }
+        self
+    }
 }
 
 // What the charges come to for each caller, or why they are refused: 2, then 17.
 pub fn report(s: State, charges: &[Charge]) -> CostReport
     ensures { result ≡ report eight (tables s) charges.now }
 {
-    let mut books = opened(&s, charges.len());
+    let mut books = Books::open(&s, charges.len());
     let n = taken(books.outcome, charges.len());
     for c in &charges[..n] {
-        books = charged(books, *c);
+        books = books.charged(*c);
     }
     CostReport::from(books)
 }

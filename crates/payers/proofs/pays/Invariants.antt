@@ -2,5 +2,5 @@
 use Rattle.payers.specs.Ways.{pays_by, Following}
 use Rattle.payers.proofs.pays.Given as goal
 
-abbrev pub invariant-loop-i : goal.invariant-loop-i
-invariant-loop-i l = Following l.ways l.n l._i l.at (pays_by l.ways l.n l.fn.from)
+abbrev pub invariant-loop : goal.invariant-loop
+invariant-loop l = Following l.ways l.n l.counter l.at (pays_by l.ways l.n l.fn.from)

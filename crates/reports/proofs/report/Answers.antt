@@ -10,10 +10,10 @@ use Rattle.reports.proofs.report.Goals.{After-taken-n}
 
 -- the charges that are walked are those that are taken
 walked : (c : After-taken-n) → take c.taken-n.result c.args.charges.now ≡ taken (reported eight (tables c.args.s) (length c.args.charges.now)) c.args.charges.now
-walked c = taken_is (reported eight (tables c.args.s) (length c.args.charges.now)) c.args.charges.now _ (rw c.opened-books.ensures at c.taken-n.ensures)
+walked c = taken_is (reported eight (tables c.args.s) (length c.args.charges.now)) c.args.charges.now _ (rw c.open-books.ensures at c.taken-n.ensures)
 
 pub loop-c-init : goal.loop-c-init
-loop-c-init c = rw c.opened-books.ensures (within_opened eight (tables c.args.s) (length c.args.charges.now), refl)
+loop-c-init c = rw c.open-books.ensures (within_opened eight (tables c.args.s) (length c.args.charges.now), refl)
 
 pub charged-books-requires : goal.charged-books-requires
 charged-books-requires c =
