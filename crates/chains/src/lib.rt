@@ -51,8 +51,7 @@ pub fn reached(hops: &Hops, from: Option<EntryName>, to: EntryName) -> bool
     ensures by_state { (t : Tables) → Followed eight t hops.now 128 → result ≡ reached eight t from to.owner to.entry }
 {
     let mut at = from;
-    // The number has a name for the invariant, which says how far the walk has come.
-    for _i in 0..ALL_ENTRIES {
+    for _ in 0..ALL_ENTRIES {
         if at == Some(to) {
             return true;
         }

@@ -187,7 +187,7 @@ pub fn bound_to(y: u8, k: Kind, ex: Kind) -> Kind
 
 // ---- export, indirect, transfer
 
-// The number of the entry of the cell c, or of the lowest free one.
+// The number of the entry of the cell c, or of the lowest free one; past the last where there is none, which `used` and `no_entry` of the rules compare.
 #[tactic(auto, unfolding(rules::specs::Refusals::entry_to_use, tables::specs::Look::exported))]
 fn entry_to_use(entries: &EntryTable, w: u8, c: u8) -> u8
     ensures { (t : Tables) → t.entries ≡ entries.now → result ≡ entry_to_use eight t w c }

@@ -1,5 +1,5 @@
 // What a delivery does where it is not refused, message by message. That the state is sound stands as a condition where it is needed: a type that says
-// it would hold the lent state, and its contracts would be no plainer.
+// it would hold the lent state, and every contract would still name it. An entry's owner and number come apart, as in messages and rules.
 ghost use Rattle.std.specs.Prelude.{◌≤◌, ◌-◌, min, ◌≡◌, true};
 ghost use Rattle.tables.specs.declared.Message.TheVariants.{Reference, Read};
 ghost use Rattle.tables.specs.declared.Change.TheVariants.{OfSlot};
@@ -152,7 +152,7 @@ fn read_on(r: u8, c: u8, m: Message, k: Kind) -> Message
 
 // ---- each message, in the slot k
 
-// The cell of worker w where a Reference to the entry e of worker o arrives.
+// The cell of worker w where a Reference to the entry e of worker o arrives; past the last where there is none, as the rules' `arrival_cell`.
 #[tactic(auto, unfolding(rules::specs::Deliver::arrival_cell))]
 fn arrival_cell(s: &State, w: u8, o: u8, e: u8) -> u8
     ensures { result ≡ arrival_cell eight (tables s.now) w o e }

@@ -21,7 +21,8 @@ fn answers(input: &[u8], out: &mut [u8]) -> usize
     text::run(input, out).unwrap_or(0)
 }
 
-// Reads until the buffer is full or the input ends, and answers how many bytes it put at the front of it.
+// Reads until the buffer is full or the input ends, and answers how many bytes it put at the front of it. The memory is fixed, so the library's reading to
+// the end, which needs a heap, is not to be had.
 fn read_full<R: Read>(reader: &mut R, buffer: &mut [u8]) -> io::Result<usize>
     ensures { IfOk result (λ n. n ≤ length buffer.new) }
 {

@@ -1,6 +1,7 @@
 // The quiet calls, which send no message and deliver none: start, new, set, bind and bound, each equal to its rule for all states and all numbers;
 // and what every call goes by, the verdict and the first lines of its refusals. A call is tried first (`try_set` and so on), which gives what it does
 // or the first refusal that applies; its reply is the state with that done in it.
+// The public calls are alike but for what tries them: one function over a closure would be no shorter, and would stand between a call and its rule.
 #![tactic(auto)]
 
 ghost use Rattle.std.specs.Prelude.{◌≡◌};

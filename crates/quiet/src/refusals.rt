@@ -1,4 +1,5 @@
-// The first lines of the table of refusal numbers, as a call tests them in their order on what it has looked up.
+// The first lines of the table of refusal numbers, as a call tests them in their order on what it has looked up. What they are
+// given comes apart, as the lines of the rules have it (`worker_lines is_sound p w`).
 ghost use Rattle.std.specs.Prelude.{◌≡◌, [], ◌∷◌};
 ghost use Rattle.rules.specs.Refusals.{not_sound, worker_lines, cell_lines, bind_lines};
 ghost use Rattle.quiet.specs.Verdicts.{first_hit};

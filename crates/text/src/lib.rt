@@ -35,6 +35,7 @@ fn run_lines(input: &[u8], out: &mut [u8]) -> usize
     ensures { (result ≡ length (answers_from (closed eight) (lines_of input.now))) × (out.new ≡ answers_from (closed eight) (lines_of input.now) ++ drop result out.old) }
 {
     let mut s = changes::all_free(0);
+    // How many bytes are written is where the next line goes, and what is answered at the end.
     let mut n = 0;
     for frame in Reader::new(input) {
         answer(&mut s, frame, &mut out[n..n + 11]);

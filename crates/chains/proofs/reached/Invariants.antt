@@ -6,5 +6,5 @@ use Rattle.loops.specs.Walking.{Walking}
 use Rattle.chains.specs.Hops.{step_by}
 use Rattle.chains.proofs.reached.Given as goal
 
-abbrev pub invariant-loop-i : goal.invariant-loop-i
-invariant-loop-i l = Walking (is_at l.to.owner l.to.entry) (step_by eight l.hops) 128 l._i l.at (walk_meets (is_at l.to.owner l.to.entry) (step_by eight l.hops) 128 l.initial.at)
+abbrev pub invariant-loop : goal.invariant-loop
+invariant-loop l = Walking (is_at l.to.owner l.to.entry) (step_by eight l.hops) 128 l.counter l.at (walk_meets (is_at l.to.owner l.to.entry) (step_by eight l.hops) 128 l.initial.at)
