@@ -50,14 +50,15 @@ pub pays_start : (ways : List Way) (m at : ℕ) → Following ways m 0 at (pays_
 pays_start ways m at = record { rest = rw sub-zero refl }
 
 -- w is what the code reads there
-pub pays_on : {ways : List Way} {m i at next : ℕ} {r : Option ℕ} → Following ways m i at r → i < m → get_or ways at Neither ≡ LeadsTo next → Following ways m (i + 1) next r
+pub pays_on : {ways : List Way} {m i at next : ℕ} {r : Option ℕ} → Following ways m i at r → i < m → get_or ways at Neither ≡ LeadsTo next
+    → Following ways m (i + 1) next r
 unfolding pays_by
 pays_on {ways} {m} {i} {at} f h w =
     let q : m - i ≡ suc (m - (i + 1)) = omega arith in
     record { rest = rw q at f.rest ∙ rw w }
 
-pub pays_no_further : {ways : List Way} {m i at : ℕ} {r : Option ℕ} → Following ways m i at r → i < m → ((j : ℕ) → get_or ways at Neither ≡ LeadsTo j → ⊥)
-    → payer_of (get_or ways at Neither) ≡ r
+pub pays_no_further : {ways : List Way} {m i at : ℕ} {r : Option ℕ} → Following ways m i at r → i < m
+    → ((j : ℕ) → get_or ways at Neither ≡ LeadsTo j → ⊥) → payer_of (get_or ways at Neither) ≡ r
 unfolding pays_by
 pays_no_further {ways} {m} {i} {at} f h ended =
     let q : m - i ≡ suc (m - (i + 1)) = omega arith in
@@ -136,7 +137,8 @@ module _ (𝓜 : Machine) (s : Tables) where
   step m i = pays_by ways_of m i
 
   -- one step, of an end that holds k
-  one : (m : ℕ) (k : Kind) → ((j : ℕ) → j < n → step m j ≡ paid_by (pays_from 𝓜 s m (end_at j))) → walked (step m) (way_on k) ≡ paid_by (pays_from 𝓜 s (suc m) k)
+  one : (m : ℕ) (k : Kind) → ((j : ℕ) → j < n → step m j ≡ paid_by (pays_from 𝓜 s m (end_at j)))
+      → walked (step m) (way_on k) ≡ paid_by (pays_from 𝓜 s (suc m) k)
   unfolding pays_from
   one m Free rec = refl
   one m (Var caller) rec = refl
@@ -151,7 +153,8 @@ module _ (𝓜 : Machine) (s : Tables) where
           at : (c : ℕ) → walked (step m) (cond (inside 𝓜 o c) (LeadsTo (o * 𝓜.cells + c)) Neither) ≡ paid_by (pays_from 𝓜 s m (end_kind 𝓜 s o c))
           at c = ⊎_elim within outside (or_else (inside 𝓜 o c))
             where
-              within : inside 𝓜 o c ≡ true → walked (step m) (cond (inside 𝓜 o c) (LeadsTo (o * 𝓜.cells + c)) Neither) ≡ paid_by (pays_from 𝓜 s m (end_kind 𝓜 s o c))
+              within : inside 𝓜 o c ≡ true
+                  → walked (step m) (cond (inside 𝓜 o c) (LeadsTo (o * 𝓜.cells + c)) Neither) ≡ paid_by (pays_from 𝓜 s m (end_kind 𝓜 s o c))
               within h =
                   let ow : o < 𝓜.workers = ltb-true o 𝓜.workers (and_l (ltb o 𝓜.workers) (ltb c 𝓜.cells) h) in
                   let cl : c < 𝓜.cells = ltb-true c 𝓜.cells (and_r (ltb o 𝓜.workers) (ltb c 𝓜.cells) h) in
@@ -159,7 +162,8 @@ module _ (𝓜 : Machine) (s : Tables) where
                   (rec (o * 𝓜.cells + c) (digits_lt ow cl)
                   ∙ ap₂ (λ (a b : ℕ). paid_by (pays_from 𝓜 s m (end_kind 𝓜 s a b))) (digits_div o cl) (digits_mod o cl))
 
-              outside : inside 𝓜 o c ≡ false → walked (step m) (cond (inside 𝓜 o c) (LeadsTo (o * 𝓜.cells + c)) Neither) ≡ paid_by (pays_from 𝓜 s m (end_kind 𝓜 s o c))
+              outside : inside 𝓜 o c ≡ false
+                  → walked (step m) (cond (inside 𝓜 o c) (LeadsTo (o * 𝓜.cells + c)) Neither) ≡ paid_by (pays_from 𝓜 s m (end_kind 𝓜 s o c))
               outside h = rw h (sym (ap (λ (k : Kind). paid_by (pays_from 𝓜 s m k)) (end_outside o c h) ∙ ap paid_by (pays_free m)))
 
   last : (k : Kind) → payer_of (way_on k) ≡ paid_by (caller_of k)

@@ -137,15 +137,15 @@ impl Books {
         }
     }
 
-    // One charge more: its payer's total gains the amount, or the unplaced one.
+    // One charge more: its payer's total gains the amount, or the unplaced one. By value, the form that document 01 names for this step.
     fn charged(mut self, c: Charge) -> Books
         requires { Within self 65534 }
         ensures value { result ≡ charged_one eight self c }
         ensures within { Within result (count self + 1) }
     {
         if let Some(who) = payer_in(&self.payers, c) {
-            let j = who as usize;
-            self.totals[j] = plus(self.totals[j], c.amount);
+            let total = &mut self.totals[who as usize];
+            *total = plus(*total, c.amount);
             self.placed += 1;
         } else {
             self.unplaced = plus(self.unplaced, c.amount);
