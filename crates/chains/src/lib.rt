@@ -45,7 +45,7 @@ fn step(hops: &Hops, at: Option<EntryName>) -> Option<EntryName>
     hops[owner as usize * ENTRY_ROW + entry as usize]
 }
 
-// The entry `to` is at the place `from`, or reached from there.
+// The entry `to` is at the place `from`, or reached from there. The walk ends after so many steps, and has no list to go over.
 pub fn reached(hops: &Hops, from: Option<EntryName>, to: EntryName) -> bool
     ensures by_table { result ≡ walk_meets (is_at to.owner to.entry) (step_by eight hops.now) 128 from }
     ensures by_state { (t : Tables) → Followed eight t hops.now 128 → result ≡ reached eight t from to.owner to.entry }

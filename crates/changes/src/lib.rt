@@ -316,7 +316,7 @@ fn releases(k: Kind) -> Message
     }
 }
 
-// The cell c, which held k, is freed: an EX sends its weight, any other kind nothing.
+// The cell c, which held k, is freed: an EX sends its weight, any other kind nothing, and is answered 64, as the rules have it (`dropped`).
 pub fn dropped(w: u8, c: u8, k: Kind, slot: u8) -> Effect
     ensures { result ≡ dropped w c k slot }
 {

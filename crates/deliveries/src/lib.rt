@@ -1,4 +1,4 @@
-// The call deliver, equal to its rule for all states and all numbers.
+// The call deliver, equal to its rule for all states and all numbers. It is tried as the calls of `quiet` are.
 #![tactic(auto)]
 
 ghost use Rattle.std.specs.Prelude.{◌≤◌, ◌≡◌, true};

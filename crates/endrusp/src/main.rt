@@ -14,7 +14,7 @@ fn room<const N: usize>() -> [u8; N]
     [0; N]
 }
 
-// How many bytes of answers stand at the front of out.
+// How many bytes of answers stand at the front of out; none where it has no room, which main's has.
 fn answers(input: &[u8], out: &mut [u8]) -> usize
     ensures { Counts result out.new }
 {

@@ -1,5 +1,6 @@
 // What stands in the tables at a number, and the state with one part changed. Each function is total: out of range reads free, and a store
-// there changes nothing. A look-up is lent the one table that it reads, and says what it finds of any tables t that have this one.
+// there changes nothing. A look-up is lent the one table that it reads, and says what it finds of any tables t that have this one:
+// to be lent a whole state would ask more.
 #![tactic(auto)]
 
 ghost use Rattle.std.specs.Prelude.{◌≡◌};

@@ -45,8 +45,7 @@ fn way_on(s: &State, k: Kind) -> Way
     ensures { result ≡ way_on eight (tables s.now) k }
 {
     match k {
-        Kind::Var { caller } => Way::PaidBy(caller),
-        Kind::Val { caller, .. } => Way::PaidBy(caller),
+        Kind::Var { caller } | Kind::Val { caller, .. } => Way::PaidBy(caller),
         Kind::Ex { owner, entry, .. } => led_to(owner, lookups::entry_at(&s.entries, owner, entry)),
         _ => Way::Neither,
     }
@@ -68,7 +67,7 @@ fn ways_of(s: &State) -> Ways
     array::from_fn(|i| way_from(s, i))
 }
 
-// Who pays from the cell at `from` on, where at most n references are followed.
+// Who pays from the cell at `from` on, where at most n references are followed. The walk has no list to go over.
 fn pays(ways: &Ways, from: u8, n: u8) -> Option<u8>
     ensures { result ≡ pays_by ways.now n from }
 {

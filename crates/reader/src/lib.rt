@@ -31,7 +31,7 @@ fn read_at(text: &[u8], at: usize) -> Option<Passage>
     })
 }
 
-// A text and a place in it.
+// A text and a place in it, by document 01's form.
 #[derive(Drop)]
 pub struct Reader<'a> {
     text: &'a [u8],

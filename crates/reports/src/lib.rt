@@ -38,7 +38,8 @@ pub struct CostReport {
     pub missed: u32,
 }
 
-// A report that is being made, beside who pays for each cell.
+// A report that is being made, beside who pays for each cell. The report's fields stand here once more, since the definitions take the books apart
+// (`gained`, `finished_of`).
 #[derive(Clone, Copy)]
 pub struct Books {
     pub outcome: Outcome,
@@ -92,7 +93,7 @@ fn reported(s: &State, n: usize) -> Outcome
     }
 }
 
-// How many of n charges are taken: all, or none where the report is refused.
+// How many of n charges are taken: all, or none where the report is refused, by the outcome, which the books hold.
 fn taken(outcome: Outcome, n: usize) -> usize
     ensures { result ≡ cond (succeeds outcome) n 0 }
 {

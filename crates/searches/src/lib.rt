@@ -86,7 +86,7 @@ pub fn free_cells(cells: &CellTable, w: u8) -> u8
     rows::count(cells, w, |x| parts::is_free(x.kind))
 }
 
-// How many Reference messages go to worker w.
+// How many Reference messages go to worker w. A loop and no chain: the wrong program `booked_for_another` speaks of the count so far.
 #[tactic(auto, unfolding(tables::specs::Look::booked))]
 pub fn booked(slots: &SlotTable, w: u8) -> u8
     ensures { (t : Tables) → t.slots ≡ slots.now → result ≡ booked t w }

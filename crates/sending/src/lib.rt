@@ -1,4 +1,5 @@
 // The calls that send a message: export, indirect, transfer, drop, read and ask, each equal to its rule for all states and all numbers.
+// They are alike but for what tries them, as in `quiet`.
 #![tactic(auto)]
 
 ghost use Rattle.std.specs.Prelude.{◌≡◌};

@@ -131,7 +131,7 @@ pub type EntryTable = [Entry; ALL_ENTRIES];
 
 pub type SlotTable = [Slot; ALL_SLOTS];
 
-// P workers; cell c of worker w stands at w * CELL_ROW + c, entry e at w * ENTRY_ROW + e.
+// P workers; cell c of worker w stands at w * CELL_ROW + c, entry e at w * ENTRY_ROW + e. One struct holding arrays, by document 01's form.
 #[derive(Clone, Copy)]
 pub struct State {
     pub p: u8,
@@ -147,7 +147,7 @@ pub struct EntryName {
     pub entry: u8,
 }
 
-// The calls, with their arguments.
+// The calls, with their arguments. An enum and no closure: a call is what a line of text says.
 #[derive(Clone, Copy)]
 pub enum Call {
     Start { p: u8 },
