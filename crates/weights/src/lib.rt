@@ -11,7 +11,7 @@ use tables::{ENTRY_ROW, Holding, Kind, Live, Message, State};
 
 // ---- point 5
 
-// What a cell that holds k holds on the entry e of worker o. Both numbers are compared, without a branch between.
+// What a cell that holds k holds on the entry e of worker o.
 fn cell_holds(o: u8, e: u8, k: Kind) -> u32
     ensures { result ≡ on_ex 0 (λ owner entry n st a. cond (eqb owner o && eqb entry e) n 0) k }
 {
@@ -21,7 +21,7 @@ fn cell_holds(o: u8, e: u8, k: Kind) -> u32
             entry,
             weight,
             ..
-        } if (owner == o) & (entry == e) => weight,
+        } if owner == o && entry == e => weight,
         _ => 0,
     }
 }
@@ -51,7 +51,7 @@ fn message_holds(s: &State, o: u8, e: u8, m: Message) -> u32
     }
 }
 
-// What the parts of a table weigh together. A loop and no chain: it shows the bound of the sum, which a chain's would ask of its callers.
+// What the parts of a table weigh together. A loop and no chain: that `map` and `sum` come to the sum, for any closure, did not prove.
 fn total<T, F: Fn(&T) -> u32>(table: &[T], weight: F) -> u64
     requires callable { F.IsAlwaysCallable weight }
     requires short { length table.now ≤ 256 }
