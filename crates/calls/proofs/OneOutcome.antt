@@ -5,6 +5,7 @@ use mathlib.Core.Path.{◌≡◌, sym, ◌∙◌}
 use contract.Lifetimes.{Lfts}
 use Rattle.sound.proofs.is_sound.Reads as is_sound
 use Rattle.sound.proofs.first_broken.Reads as first_broken
+use Rattle.sound.proofs.broken_place.Reads as broken_place
 use Rattle.quiet.proofs.start.Reads as start
 use Rattle.quiet.proofs.new.Reads as new
 use Rattle.quiet.proofs.set.Reads as set
@@ -37,6 +38,9 @@ is_sound_one κs a x y e f p q = one p q
 
 pub first_broken_one : (κs : Lfts 1) → OneOutcome (first_broken.Post κs)
 first_broken_one κs a x y e f p q = one p q
+
+pub broken_place_one : (κs : Lfts 1) → OneOutcome (broken_place.Post κs)
+broken_place_one κs a x y e f p q = one p q
 
 pub start_one : OneOutcome (start.Post tt)
 start_one a x y e f p q = one p q

@@ -230,8 +230,7 @@ fn look(rt: &impl Print, name: &str, w: u8, i: u8, n: u32) -> io::Result<()> {
 }
 
 fn broken_point(rt: &impl Print, s: State) -> io::Result<()> {
-    let n = sound::first_broken(&s).map_or(0, |point| point as u32);
-    look(rt, "broken-point", 0, 0, n)
+    look(rt, "broken-point", 0, 0, u32::from(sound::broken_place(&s)))
 }
 
 fn ex_weight(rt: &impl Print, s: State, w: u8, c: u8) -> io::Result<()> {

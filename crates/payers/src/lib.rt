@@ -2,19 +2,21 @@
 // it.
 #![tactic(auto)]
 
-ghost use Rattle.std.specs.Prelude.{◌≡◌, ◌<◌};
+ghost use Rattle.std.specs.Prelude.{◌≡◌, ◌<◌, get_or};
 ghost use Rattle.tables.specs.Machine.{eight, tables};
+ghost use Rattle.payers.specs.declared.Way.TheVariants.{Neither};
 ghost use Rattle.payers.specs.Ways.{payer_of, led_to, way_on, end_at, ways_of, pays_by, payers_of};
 
 use std::array;
 use tables::{ALL_CELLS, CELL_ROW, CELLS, Holding, Kind, Live, State, WORKERS};
 
-// The way on from a cell's end: a VAR or a VAL is paid for by its caller, an EX leads to another cell, whose place in the table this is.
+// The way on from a cell's end: a VAR or a VAL is paid for by its caller, an EX leads to another cell, whose place in the table this is, in two bytes:
+// other sizes than today's have more than 256 cells.
 #[derive(Clone, Copy)]
 enum Way {
     Neither,
     PaidBy(u8),
-    LeadsTo(u8),
+    LeadsTo(u16),
 }
 
 // The ways on from all cells, cell c of worker w at w * CELL_ROW + c.
@@ -35,7 +37,9 @@ fn led_to(w: u8, x: Holding) -> Way
     ensures { result ≡ led_to eight w x }
 {
     match x {
-        Some(Live { cell, .. }) if w < WORKERS && cell < CELLS => { Way::LeadsTo(w * CELLS + cell) }
+        Some(Live { cell, .. }) if w < WORKERS && cell < CELLS => {
+            Way::LeadsTo(u16::from(w) * u16::from(CELLS) + u16::from(cell))
+        }
         _ => Way::Neither,
     }
 }
@@ -67,18 +71,25 @@ fn ways_of(s: &State) -> Ways
     array::from_fn(|i| way_from(s, i))
 }
 
+// The way on from the cell at the place `at`; past the table it leads nowhere.
+fn way_at(ways: &Ways, at: u16) -> Way
+    ensures { result ≡ get_or ways.now at Neither }
+{
+    ways.get(at as usize).copied().unwrap_or(Way::Neither)
+}
+
 // Who pays from the cell at `from` on, where at most n references are followed. The walk has no list to go over.
-fn pays(ways: &Ways, from: u8, n: u8) -> Option<u8>
+fn pays(ways: &Ways, from: u16, n: u8) -> Option<u8>
     ensures { result ≡ pays_by ways.now n from }
 {
     let mut at = from;
     for _ in 0..n {
-        let Way::LeadsTo(next) = ways[at as usize] else {
+        let Way::LeadsTo(next) = way_at(ways, at) else {
             break;
         };
         at = next;
     }
-    payer_of(ways[at as usize])
+    payer_of(way_at(ways, at))
 }
 
 // Who pays for each cell, none where nobody does.
@@ -87,5 +98,5 @@ pub fn payers_of(s: &State) -> [Option<u8>; ALL_CELLS]
 {
     let ways = ways_of(s);
     let n = searches::live_entries(&s.entries);
-    array::from_fn(|i| pays(&ways, i as u8, n))
+    array::from_fn(|i| pays(&ways, i as u16, n))
 }

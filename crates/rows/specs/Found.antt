@@ -24,7 +24,7 @@ from_cong p q (suc n) i h =
     let later = from_cong p q n (suc i) (λ j l. h j (omega arith)) in
     rw (h i (omega arith), later)
 
-lowest_cong : (n : ℕ) (p q : ℕ → Bool) → ((j : ℕ) → j < n → p j ≡ q j) → lowest n p ≡ lowest n q
+pub lowest_cong : (n : ℕ) (p q : ℕ → Bool) → ((j : ℕ) → j < n → p j ≡ q j) → lowest n p ≡ lowest n q
 lowest_cong n p q h = from_cong p q n 0 (λ j l. h j (omega arith))
 
 pub slots_lowest : (𝓜 : Machine) (s : Tables) (q : Message → Bool) {l : List Slot} {r : ℕ} → s.slots ≡ l → length l ≡ 𝓜.slots

@@ -1,2 +1,3 @@
 -- The points, tested one after another.
+pub mod InTurn
 pub mod Points

@@ -4,7 +4,7 @@
 ghost use Rattle.std.specs.Prelude.{◌≡◌};
 ghost use Rattle.tables.specs.Machine.{eight, tables};
 ghost use Rattle.states.specs.Sound.{sound, first_broken};
-ghost use Rattle.sound.specs.Points.{point_of};
+ghost use Rattle.sound.specs.Points.{point_of, place_of};
 
 use tables::State;
 
@@ -43,6 +43,21 @@ pub fn first_broken(s: &State) -> Option<Point>
         return Some(Point::Room);
     }
     None
+}
+
+// A point's place, 1 to 6.
+fn place_of(point: Point) -> u8
+    ensures { result ≡ place_of point }
+{
+    point as u8
+}
+
+// The place of the first broken point; 0 where none is.
+#[tactic(auto, using(crate::specs::Points::broken_placed))]
+pub fn broken_place(s: &State) -> u8
+    ensures { result ≡ first_broken eight (tables s.now) }
+{
+    first_broken(s).map_or(0, place_of)
 }
 
 #[tactic(auto, using(crate::specs::Points::none_broken))]

@@ -123,7 +123,7 @@ fn with_cells_below(c: u8) -> State {
 // ---- the cases
 
 fn show(rt: &impl Print, name: &str, s: State) -> io::Result<()> {
-    let n = sound::first_broken(&s).map_or(0, |point| point as u8);
+    let n = sound::broken_place(&s);
     println!(rt; "{name} {n}")
 }
 

@@ -5,11 +5,13 @@ use Rattle.payers.proofs.pays.Goals as goal
 use Rattle.payers.proofs.pays.Goals.{else-loop-test, then-loop-test+in_default}
 
 pub loop-preserved : goal.loop-preserved
-loop-preserved c = pays_on c.loop.invariant c.loop-test.true c.in-LeadsTo.is
+loop-preserved c = pays_on c.loop.invariant c.loop-test.true (rw c.way_at.ensures at c.in-LeadsTo.is)
 
 pub returns : goal.returns
 returns c =
     elim c.loop-test.branch [
-      | else-loop-test w ↦ c.payer_of.ensures ∙ pays_end c.loop.invariant w.loop-test.false
-      | then-loop-test+in_default w ↦ c.payer_of.ensures ∙ pays_no_further c.loop.invariant w.loop-test.true w.in_default.not-LeadsTo
+      | else-loop-test w ↦ c.payer_of.ensures ∙ rw c.way_at-2.ensures (pays_end c.loop.invariant w.loop-test.false)
+      | then-loop-test+in_default w ↦
+          let ended = rw w.way_at.ensures at w.in_default.not-LeadsTo in
+          c.payer_of.ensures ∙ rw c.way_at-2.ensures (pays_no_further c.loop.invariant w.loop-test.true ended)
     ]
