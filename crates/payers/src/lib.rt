@@ -10,6 +10,9 @@ ghost use Rattle.payers.specs.Ways.{payer_of, led_to, way_on, end_at, ways_of, p
 use std::array;
 use tables::{ALL_CELLS, CELL_ROW, CELLS, Holding, Kind, Live, State, WORKERS};
 
+// Nobody in the rules: the number past the last caller. In the code it is None.
+pub const NOBODY: u16 = 256;
+
 // The way on from a cell's end: a VAR or a VAL is paid for by its caller, an EX leads to another cell, whose place in the table this is, in two bytes:
 // other sizes than today's have more than 256 cells.
 #[derive(Clone, Copy)]

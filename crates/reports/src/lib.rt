@@ -16,7 +16,7 @@ use quiet::verdict::refuse_if;
 use tables::{ALL_CELLS, CELL_ROW, CELLS, Outcome, Refusal, State, WORKERS};
 
 // How many callers there are, and how many charges a list may have.
-pub const CALLERS: usize = 256;
+pub const CALLERS: usize = payers::NOBODY as usize;
 
 pub const MOST_CHARGES: usize = 65535;
 

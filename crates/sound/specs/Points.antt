@@ -1,6 +1,6 @@
 -- The points by their places, and a chain of tests in code, `if !first(..) { return Some(..); } ..`, and what it says of six points: of points what
 -- `InTurn` says of places. Assumes nothing.
-use Rattle.std.specs.Prelude.{ℕ, ◌≡◌, refl, Bool, true, false, not, cond, eqb, Option, Some, None, is_none, [], ◌∷◌, get_or}
+use Rattle.std.specs.Prelude.{ℕ, ◌≡◌, refl, Bool, true, false, ◌&&◌, not, cond, Option, Some, None, is_none, [], ◌∷◌, get_or}
 use Rattle.std.proofs.Common.{ap, ◌∙◌}
 use Rattle.tables.specs.Machine.{Machine, Tables}
 use Rattle.states.specs.Sound.{sound, first_broken, point1, point2, point3, point4, point5, point6}
@@ -48,15 +48,17 @@ pub broken_placed : (𝓜 : Machine) (s : Tables) → place_in (point_of (first_
 unfolding first_broken
 broken_placed 𝓜 s = placed (point1 𝓜 s) (point2 𝓜 s) (point3 𝓜 s) (point4 𝓜 s) (point5 𝓜 s) (point6 𝓜 s)
 
-none : (point : Option Point) → is_none point ≡ eqb (place_in point) 0
-none None = refl
-none (Some Ranges) = refl
-none (Some CellsName) = refl
-none (Some EntriesName) = refl
-none (Some Messages) = refl
-none (Some Weights) = refl
-none (Some Room) = refl
+-- is_none of the point at the place that the tests give
+none : (a b c d e f : Bool) → is_none (point_of (cond a (cond b (cond c (cond d (cond e (cond f 0 6) 5) 4) 3) 2) 1)) ≡ (a && (b && (c && (d && (e && f)))))
+none false b c d e f = refl
+none true false c d e f = refl
+none true true false d e f = refl
+none true true true false e f = refl
+none true true true true false f = refl
+none true true true true true false = refl
+none true true true true true true = refl
 
 -- a state is sound where no point is broken
 pub none_broken : (𝓜 : Machine) (s : Tables) → is_none (point_of (first_broken 𝓜 s)) ≡ sound 𝓜 s
-none_broken 𝓜 s = none (point_of (first_broken 𝓜 s)) ∙ ap (λ (n : ℕ). eqb n 0) (broken_placed 𝓜 s) ∙ in_turn.none_broken 𝓜 s
+unfolding first_broken sound
+none_broken 𝓜 s = none (point1 𝓜 s) (point2 𝓜 s) (point3 𝓜 s) (point4 𝓜 s) (point5 𝓜 s) (point6 𝓜 s)
